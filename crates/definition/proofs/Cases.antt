@@ -1,0 +1,45 @@
+-- The definition answers each of the fourteen bench cases as document 01 says: one claim over one list, by computation.
+-- Assumes nothing.
+use mathlib.Core.Path.{_≡_, refl}
+use mathlib.Core.List.{[], _∷_, map}
+use mathlib.Core.Option.{none, some}
+use Rattle.format.specs.Entry.{openEntry}
+use Rattle.format.specs.Flat.{openFlat}
+use Rattle.format.specs.Macro.{openMacro}
+use Rattle.format.specs.Limits.{openLimits}
+use Rattle.format.specs.Build.{openBuild}
+use Rattle.format.specs.Tape.{openTape}
+use Rattle.definition.specs.Text.{utf8, openText}
+use Rattle.definition.specs.Outcome.{refusal, openOutcome}
+use Rattle.definition.specs.Size.{openSize}
+use Rattle.definition.specs.Check.{checkDef, openCheck}
+use Rattle.definition.specs.Substitute.{openSubstitute}
+use Rattle.definition.specs.Registry.{openRegistry}
+use Rattle.definition.specs.Expand.{openExpand}
+use Rattle.definition.specs.Answers.{answer, bare, reading, longBuffers, treeAnswer, expandTapes, expandAnswer}
+use Rattle.definition.specs.Messages.{openMessages}
+use Rattle.definition.specs.Cases.{definitions, cases, run, resultOf, expected, line, runBytes, undeclared}
+
+pub fourteen-cases : map run cases ≡ cases
+unfolding
+    openEntry openFlat openLimits openText openOutcome openSize openCheck openSubstitute openRegistry openExpand definitions
+    cases run
+fourteen-cases = refl
+
+-- the same through bytes: the registry and the condition are encoded, read back and expanded, and the result is encoded
+pub fourteen-cases-through-bytes : map runBytes cases ≡ map expected cases
+unfolding
+    openEntry openFlat openMacro openLimits openBuild openTape openText openOutcome openSize openCheck openSubstitute
+    openRegistry openExpand answer bare reading longBuffers treeAnswer expandTapes expandAnswer definitions cases
+    resultOf expected line runBytes
+fourteen-cases-through-bytes = refl
+
+-- "m passes, a body `?y` of m is 20": the body check passes the six definitions, `$b` of z among them, and not every one.
+pub definitions-pass : map checkDef definitions ≡ none ∷ none ∷ none ∷ none ∷ none ∷ none ∷ []
+unfolding openText openCheck definitions
+definitions-pass = refl
+
+pub undeclared-refused : checkDef undeclared
+    ≡ some (refusal 20 0 (utf8 "in `def temporal` body: `?y` does not name a declared parameter (declared: ?x)"))
+unfolding openText openCheck openMessages undeclared
+undeclared-refused = refl

@@ -1,0 +1,242 @@
+-- Every answer keeps its bounds: specs/Kept.antt, of each operation. What an accepted tape keeps to goes into the walks of
+-- KeptSubstitute, KeptExpand and Verdicts.
+-- Assumes nothing.
+use Prim.Native.Nat.{ℕ, _-_, _≤_}
+use native.Mathlib.Omega.{arith}
+use mathlib.Core.Path.{_≡_, refl, sym}
+use mathlib.Core.List.{List, [], _∷_}
+use mathlib.Core.Bool.{Bool, true, false, not, _&&_, false≢true}
+use lib.Dec.{T, leb, leb→le}
+use lib.ListN.{length, replicate, length-append, length-replicate}
+use Rattle.format.specs.Entry.{Entry, encode, textOf}
+use Rattle.format.specs.Ast.{Condition, Call, Tree, MacroParam, MacroDef}
+use Rattle.format.specs.Flat.{flatCondition, flatCall, flatTree, flatParams, flatDef, flatDefs, flatRegistry}
+use Rattle.format.specs.Limits.{isNode, isCall, deepTree, fitsSizes, fitsDepths, fitsAll, tooLargeTree}
+use Rattle.format.specs.Macro.{isCode}
+use Rattle.format.specs.Tape.{Reading, longestText, shortTexts, smallBody, conditionRoot, definitionRoot, callRoot, registryRoot, read}
+use Rattle.format.proofs.All.{All, all-nil, all-cons, all-head, all-tail, all-left, all-right, all-both, all-map}
+use Rattle.format.proofs.Accepted.{Values64, OnTape, both, accepted-on-tape}
+use Rattle.format.proofs.Encodes.{fitting, length-encode}
+use Rattle.format.proofs.Exact.{lawful-condition, lawful-definition, lawful-call, lawful-registry}
+use Rattle.definition.specs.Outcome.{Refusal, Outcome}
+use Rattle.definition.specs.Check.{Verdict, namesOf, checkDef}
+use Rattle.definition.specs.Registry.{build}
+use Rattle.definition.specs.Answers.{Buffers, padded, answer, bare, reading, longBuffers, treeAnswer, expandTapes, expandAnswer, substituteTapes, substituteAnswer, messageAlone, verdict, messageAnswer, checkAnswer, registryAnswer}
+use Rattle.definition.specs.Kept.{Bounded, CheckBounded, RegistryBounded, SubstituteBounded, ExpandBounded}
+use Rattle.definition.proofs.Good.{good-done, good-refused}
+use Rattle.definition.proofs.Lengths.{Short, Name, Declared, short-reserved, short-duplicate, short-undeclared, short-plain, short-macroInMacro}
+use Rattle.definition.proofs.Verdicts.{Given, passes, refuses, given-body, given-build}
+use Rattle.definition.proofs.KeptSubstitute.{KeptTree, Sized, silent, def-name, def-body, kept-substitute}
+use Rattle.definition.proofs.KeptExpand.{SizedDef, kept-expand}
+
+-- ------------------------------------------------------------------ what an input's tape keeps to
+
+abbrev ShortText : Entry → Type 0
+ShortText e = length (e .text) ≤ longestText (isCode (22 ∷ 23 ∷ []) (e .code))
+
+short-texts : (es : List Entry) → T (shortTexts es) → All ShortText es
+unfolding shortTexts
+short-texts [] h = all-nil
+short-texts (e ∷ es) h =
+    let long : ℕ = longestText (isCode (22 ∷ 23 ∷ []) (e .code)) in
+    let q = both (leb (length (e .text)) long) (shortTexts es) h in
+    all-cons (leb→le (length (e .text)) long (q .0)) (short-texts es (q .1))
+
+longest : (b : Bool) → longestText b ≤ 255
+unfolding longestText
+longest true = omega arith
+longest false = omega arith
+
+sized : {es : List Entry} → All ShortText es → Values64 es → All Sized es
+sized h v = all-map (λ e s. (omega (arith, s .0, longest (isCode (22 ∷ 23 ∷ []) (e .code))), s .1)) (all-both h v)
+
+sized-condition : (bytes : List ℕ) (c : Condition) → OnTape conditionRoot bytes c → All Sized (flatCondition c)
+unfolding conditionRoot
+sized-condition bytes c t = sized (short-texts (flatCondition c) (t .texts)) (t .range .values)
+
+sized-call : (bytes : List ℕ) (c : Call) → OnTape callRoot bytes c → All Sized (flatCall c)
+unfolding callRoot
+sized-call bytes c t = sized (short-texts (flatCall c) (t .texts)) (t .range .values)
+
+sized-definition : (bytes : List ℕ) (d : MacroDef) → OnTape definitionRoot bytes d → SizedDef d
+unfolding definitionRoot
+sized-definition bytes d t = sized (short-texts (flatDef d) (t .texts)) (t .range .values)
+
+-- ------------------------------------------------------------------ the verdicts
+
+abbrev ShortRefusal : Refusal → Type 0
+ShortRefusal r = Short (r .message)
+
+declared-params : (ps : List MacroParam) → All ShortText (flatParams ps) → All Declared (namesOf ps)
+unfolding flatParams namesOf longestText isCode
+declared-params [] h = all-nil
+declared-params (p ∷ ps) h = all-cons (all-head (all-tail h)) (declared-params ps (all-tail (all-tail h)))
+
+length-names : (ps : List MacroParam) → length (namesOf ps) ≡ length ps
+unfolding namesOf
+length-names [] = refl
+length-names (p ∷ ps) = omega (arith, length-names ps)
+
+short-check : (bytes : List ℕ) (def : MacroDef) → OnTape definitionRoot bytes def → Given ShortRefusal (checkDef def)
+unfolding definitionRoot checkDef smallBody flatDef
+short-check bytes def t =
+    let texts : All ShortText (flatDef def) = short-texts (flatDef def) (t .texts) in
+    let few = leb→le (length (def .params)) 16 (both (leb (length (def .params)) 16) _ (t .small) .0) in
+    let names = declared-params (def .params) (all-left (flatParams (def .params)) _ (all-tail (all-tail (all-tail texts)))) in
+    given-body Name (namesOf (def .params))
+    (record {
+      undeclared = λ n k s. short-undeclared n k (namesOf (def .params)) names (omega (arith, few, length-names (def .params)));
+      plain = λ n k s. short-plain n k;
+      called = λ s. short-macroInMacro;
+    })
+    (def .body) (def-body def (sized-definition bytes def t))
+
+sized-defs : (ds : List MacroDef) → All Sized (flatDefs ds) → All SizedDef ds
+unfolding flatDefs
+sized-defs [] h = all-nil
+sized-defs (d ∷ ds) h = all-cons (all-left (flatDef d) _ h) (sized-defs ds (all-right (flatDef d) h))
+
+sized-registry : (bytes : List ℕ) (ds : List MacroDef) → OnTape registryRoot bytes ds → All SizedDef ds
+unfolding registryRoot flatRegistry
+sized-registry bytes ds t = sized-defs ds (all-tail (sized (short-texts _ (t .texts)) (t .range .values)))
+
+short-build : (ds : List MacroDef) → All SizedDef ds → Given ShortRefusal (build ds)
+short-build ds h =
+    given-build Name (record { reserved = λ n k s. short-reserved n k; duplicate = λ n k s p. short-duplicate n k p }) ds
+    (all-map (λ d s. def-name d s) h)
+
+-- ------------------------------------------------------------------ the answers
+
+padded-length : (n : ℕ) (bytes : List ℕ) → length bytes ≤ n → length (padded n bytes) ≡ n
+unfolding padded
+padded-length n bytes h =
+    omega (arith, length-append bytes (replicate (n - length bytes) 0), length-replicate {A = ℕ} (n - length bytes) 0)
+
+-- a tree that is not too large has a tape of at most 12,296 bytes
+fits-of : (x y : Bool) → not (x && y) ≡ false → T x
+fits-of true y e = tt
+fits-of false y e = absurd (false≢true (sym e))
+
+tape-length : (t : Tree) → tooLargeTree t ≡ false → length (encode (flatTree t)) ≤ 12296
+unfolding tooLargeTree fitsAll
+tape-length t h =
+    let es : List Entry = flatTree t in
+    let k = fits-of (fitsSizes (length es) (length (textOf es))) (fitsDepths (deepTree isNode t) (deepTree isCall t)) h in
+    let q = fitting (length es) (length (textOf es)) k in
+    omega (arith, length-encode es)
+
+bounded-done : {A : Type 0} (tape : A → List ℕ) (b : Buffers) (limit : ℕ) (a : A) (n : ℕ) → n ≤ limit → length (tape a) ≤ b .resultLength
+    → Bounded b limit (answer tape b (Outcome.done a n))
+unfolding answer
+bounded-done tape b limit a n h k =
+    record {
+      short-message = omega arith;
+      within-limit = h;
+      whole-result = padded-length (b .resultLength) (tape a) k;
+      whole-work = padded-length (b .workLength) [] (omega arith);
+      whole-message = padded-length (b .messageLength) [] (omega arith);
+    }
+
+bounded-refused : {A : Type 0} (tape : A → List ℕ) (b : Buffers) (limit : ℕ) (r : Refusal) (n : ℕ) → n ≤ limit → Short (r .message)
+    → length (r .message) ≤ b .messageLength → Bounded b limit (answer tape b (Outcome.refused r n))
+unfolding answer
+bounded-refused tape b limit r n h s k =
+    record {
+      short-message = s;
+      within-limit = h;
+      whole-result = padded-length (b .resultLength) [] (omega arith);
+      whole-work = padded-length (b .workLength) [] (omega arith);
+      whole-message = padded-length (b .messageLength) (r .message) k;
+    }
+
+-- a refusal without message
+bounded-bare : {A : Type 0} (tape : A → List ℕ) (b : Buffers) (limit number : ℕ) → Bounded b limit (answer tape b (bare number))
+unfolding bare
+bounded-bare tape b limit number = bounded-refused tape b limit _ 0 (omega arith) silent (omega arith)
+
+-- a tape that is read: 2, 3, or what is accepted
+bounded-reading : {A B : Type 0} (tape : B → List ℕ) (b : Buffers) (limit : ℕ) (o : Reading A) (k : A → Outcome B)
+    → ((a : A) → o ≡ Reading.accepted a → Bounded b limit (answer tape b (k a))) → Bounded b limit (answer tape b (reading o k))
+unfolding reading
+bounded-reading tape b limit Reading.malformed k f = bounded-bare tape b limit 2
+bounded-reading tape b limit Reading.tooLarge k f = bounded-bare tape b limit 3
+bounded-reading tape b limit (Reading.accepted a) k f = f a refl
+
+-- ------------------------------------------------------------------ check and registry
+
+abbrev nothing : Unit {0} → List ℕ
+nothing u = []
+
+bounded-message : (m : ℕ) (o : Outcome (Unit {0})) → (2048 ≤ m → Bounded (messageAlone m) 0 (answer nothing (messageAlone m) o))
+    → Bounded (messageAlone m) 0 (messageAnswer m o)
+unfolding messageAnswer
+bounded-message m o f = go (leb 2048 m) (leb→le 2048 m)
+  where
+    go : (x : Bool) → (T x → 2048 ≤ m)
+        → Bounded (messageAlone m) 0 (answer nothing (messageAlone m) (elim x [ true ↦ o | false ↦ bare 1 ]))
+    go true q = f (q tt)
+    go false q = bounded-bare nothing (messageAlone m) 0 1
+
+bounded-verdict : (m : ℕ) {v : Verdict} → 2048 ≤ m → Given ShortRefusal v → Bounded (messageAlone m) 0 (answer nothing (messageAlone m) (verdict v))
+unfolding verdict
+bounded-verdict m long passes = bounded-done nothing (messageAlone m) 0 tt 0 (omega arith) (omega arith)
+bounded-verdict m long (refuses {r = r} s) = bounded-refused nothing (messageAlone m) 0 r 0 (omega arith) s (omega arith)
+
+pub check-bounded : CheckBounded
+unfolding checkAnswer
+check-bounded m definition q =
+    bounded-message m _ λ long.
+    bounded-reading nothing (messageAlone m) 0 (read definitionRoot definition) _ λ def h.
+    bounded-verdict m long (short-check definition def (accepted-on-tape definitionRoot (lawful-definition .spells) definition q def h))
+
+pub registry-bounded : RegistryBounded
+unfolding registryAnswer
+registry-bounded m registry q =
+    bounded-message m _ λ long.
+    bounded-reading nothing (messageAlone m) 0 (read registryRoot registry) _ λ defs h.
+    bounded-verdict m long
+    (short-build defs (sized-registry registry defs (accepted-on-tape registryRoot (lawful-registry .spells) registry q defs h)))
+
+-- ------------------------------------------------------------------ substitution and expansion
+
+abbrev treeTape : Tree → List ℕ
+treeTape t = encode (flatTree t)
+
+bounded-tree : (b : Buffers) (limit : ℕ) (o : Outcome Tree)
+    → (12296 ≤ b .resultLength → 2048 ≤ b .messageLength → Bounded b limit (answer treeTape b o)) → Bounded b limit (treeAnswer b o)
+unfolding treeAnswer longBuffers
+bounded-tree b limit o f = go (longBuffers b) (λ h. h)
+  where
+    go : (x : Bool) → (T x → T (longBuffers b)) → Bounded b limit (answer treeTape b (elim x [ true ↦ o | false ↦ bare 1 ]))
+    go true h =
+        let q = both (leb 12296 (b .resultLength)) _ (h tt) in
+        let w = both (leb 65536 (b .workLength)) _ (q .1) in
+        f (leb→le 12296 (b .resultLength) (q .0)) (leb→le 2048 (b .messageLength) (w .1))
+    go false h = bounded-bare treeTape b limit 1
+
+bounded-kept : (b : Buffers) (limit : ℕ) {o : Outcome Tree} → 12296 ≤ b .resultLength → 2048 ≤ b .messageLength
+    → KeptTree (λ t. t) limit o → Bounded b limit (answer treeTape b o)
+bounded-kept b limit large long (good-done {a = t} {n = n} k) =
+    bounded-done treeTape b limit t n (k .0) (omega (arith, tape-length t (k .1)))
+bounded-kept b limit large long (good-refused {r = r} {n = n} k) =
+    bounded-refused treeTape b limit r n (k .1) (k .0) (omega (arith, k .0))
+
+pub substitute-bounded : SubstituteBounded
+unfolding substituteAnswer substituteTapes
+substitute-bounded b limit small definition input p q =
+    bounded-tree b limit _ λ large long.
+    bounded-reading treeTape b limit (read definitionRoot definition) _ λ def h.
+    bounded-reading treeTape b limit (read callRoot input) _ λ call k.
+    let d = accepted-on-tape definitionRoot (lawful-definition .spells) definition p def h in
+    let c = accepted-on-tape callRoot (lawful-call .spells) input q call k in
+    bounded-kept b limit large long (kept-substitute limit small def (sized-definition definition def d) call (sized-call input call c))
+
+pub expand-bounded : ExpandBounded
+unfolding expandAnswer expandTapes
+expand-bounded b limit small registry input p q =
+    bounded-tree b limit _ λ large long.
+    bounded-reading treeTape b limit (read registryRoot registry) _ λ defs h.
+    bounded-reading treeTape b limit (read conditionRoot input) _ λ condition k.
+    let ds = sized-registry registry defs (accepted-on-tape registryRoot (lawful-registry .spells) registry p defs h) in
+    let c = accepted-on-tape conditionRoot (lawful-condition .spells) input q condition k in
+    bounded-kept b limit large long (kept-expand limit small defs ds (short-build defs ds) condition (sized-condition input condition c))

@@ -1,0 +1,33 @@
+-- What holds of every answer of the four operations: the message fits the least message buffer, so that none is ever cut; no more
+-- is charged than the limit; and each buffer is as long as it was lent. The theorems are in proofs/Kept.antt.
+-- Assumes nothing.
+use Prim.Native.Nat.{ℕ, _≤_, _<_, _^_}
+use mathlib.Core.Path.{_≡_}
+use mathlib.Core.List.{List}
+use lib.ListN.{length}
+use Rattle.format.specs.Tape.{Bytes}
+use Rattle.definition.specs.Answers.{Answer, Buffers, messageAlone, checkAnswer, registryAnswer, substituteAnswer, expandAnswer}
+
+pub record Bounded (b : Buffers) (limit : ℕ) (a : Answer) : Type 0 where
+  pub short-message : a .messageLength ≤ 2048
+  pub within-limit : a .charged ≤ limit
+  pub whole-result : length (a .result) ≡ b .resultLength
+  pub whole-work : length (a .work) ≡ b .workLength
+  pub whole-message : length (a .message) ≡ b .messageLength
+
+abbrev pub CheckBounded : Type 0
+CheckBounded = (m : ℕ) (definition : List ℕ) → Bytes definition → Bounded (messageAlone m) 0 (checkAnswer m definition)
+
+abbrev pub RegistryBounded : Type 0
+RegistryBounded = (m : ℕ) (registry : List ℕ) → Bytes registry → Bounded (messageAlone m) 0 (registryAnswer m registry)
+
+-- "The limit is below 2^32"
+abbrev pub SubstituteBounded : Type 0
+SubstituteBounded =
+    (b : Buffers) (limit : ℕ) → limit < 2 ^ 32 → (definition input : List ℕ) → Bytes definition → Bytes input
+    → Bounded b limit (substituteAnswer b limit definition input)
+
+abbrev pub ExpandBounded : Type 0
+ExpandBounded =
+    (b : Buffers) (limit : ℕ) → limit < 2 ^ 32 → (registry input : List ℕ) → Bytes registry → Bytes input
+    → Bounded b limit (expandAnswer b limit registry input)

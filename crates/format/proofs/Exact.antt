@@ -1,0 +1,56 @@
+-- `read` gives a tree exactly where the bytes are a tape of it within the limits: one law over the root, and the five roots.
+-- Assumes nothing.
+use mathlib.Core.Path.{_≡_, refl, sym, _∙_, ap}
+use mathlib.Core.Logic.{_↔_}
+use mathlib.Core.List.{List, []}
+use mathlib.Core.Bool.{Bool, true, false, _&&_}
+use Prim.Native.Nat.{ℕ}
+use lib.Dec.{T}
+use Rattle.format.specs.Tape.{Reading, Root, conditionRoot, definitionRoot, callRoot, registryRoot, treeRoot, readLimits, read, Bytes}
+use Rattle.format.proofs.Spells.{Spells, s-condition-root, s-definition-root, s-call-root, s-registry-root, s-tree-root}
+use Rattle.format.proofs.Builds.{Rooted, rooted-condition, rooted-definition, rooted-call, rooted-registry, rooted-tree}
+use Rattle.format.proofs.Accepted.{OnTape, accepted-on-tape}
+use Rattle.format.proofs.Encodes.{WellTexted, well-condition, well-definition, well-call, well-registry, well-tree, read-back}
+
+-- What a root must satisfy: what its reader takes is what it spells, what it spells builds it again, and the texts that it spells
+-- are as long as their values say.
+pub record Lawful {A : Type 0} (root : Root A) : Type 0 where
+  pub spells : Spells (root .flat) [] (root .reader)
+  pub rooted : (a : A) → Rooted root a
+  pub texted : (a : A) → WellTexted (root .flat a)
+
+within-limits : {A : Type 0} (x y : Bool) (a : A) → T x → T y → readLimits (x && y) a ≡ Reading.accepted a
+unfolding readLimits
+within-limits true true a p q = refl
+within-limits true false a p q = absurd q
+within-limits false y a p q = absurd p
+
+pub exactly : {A : Type 0} (root : Root A) → Lawful root → (bytes : List ℕ) → Bytes bytes → (a : A)
+    → (read root bytes ≡ Reading.accepted a) ↔ OnTape root bytes a
+exactly root law bytes q a = (accepted-on-tape root (law .spells) bytes q a, back)
+  where
+    back : OnTape root bytes a → read root bytes ≡ Reading.accepted a
+    back t =
+        ap (read root) (sym (t .encoded))
+        ∙ (read-back root a (law .rooted a) (law .texted a) (t .range)
+        ∙ within-limits (root .texts (root .flat a)) (root .small a) a (t .texts) (t .small))
+
+pub lawful-condition : Lawful conditionRoot
+unfolding conditionRoot
+lawful-condition = record { spells = s-condition-root; rooted = rooted-condition; texted = well-condition }
+
+pub lawful-definition : Lawful definitionRoot
+unfolding definitionRoot
+lawful-definition = record { spells = s-definition-root; rooted = rooted-definition; texted = well-definition }
+
+pub lawful-call : Lawful callRoot
+unfolding callRoot
+lawful-call = record { spells = s-call-root; rooted = rooted-call; texted = well-call }
+
+pub lawful-registry : Lawful registryRoot
+unfolding registryRoot
+lawful-registry = record { spells = s-registry-root; rooted = rooted-registry; texted = well-registry }
+
+pub lawful-tree : Lawful treeRoot
+unfolding treeRoot
+lawful-tree = record { spells = s-tree-root; rooted = rooted-tree; texted = well-tree }

@@ -1,0 +1,182 @@
+-- Acceptance of a tape: the bytes as a tree, or 2, or 3, in document 01's order: "slice under 8 is 2, N or T over is 3, then any
+-- other 2, then any other 3".
+-- Assumes nothing.
+use Prim.Native.Nat.{ℕ, _+_, _*_, _<_}
+use mathlib.Core.List.{List, [], _∷_}
+use mathlib.Core.Bool.{Bool, true, false, _&&_}
+use mathlib.Core.Option.{Option, none, some}
+use lib.Dec.{leb, eqb}
+use lib.ListN.{length, take, drop}
+use Rattle.format.specs.Entry.{Text, Entry}
+use Rattle.format.specs.Ast.{Condition, Call, Tree, MacroDef}
+use Rattle.format.specs.Flat.{flatCondition, flatCall, flatTree, flatDef, flatRegistry}
+use Rattle.format.specs.Macro.{isCode}
+use Rattle.format.specs.Limits.{isNode, isCall, deepCondition, deepCall, deepTree, deepBody, fitsSizes, fitsDepths}
+use Rattle.format.specs.Build.{Stack, Pop, pop, asCondition, asCall, asDefinition, asTree, listOf, build}
+
+-- 2, 3, or what was read
+pub data Reading (A : Type 0) : Type 0 where
+  malformed : Reading A
+  tooLarge : Reading A
+  accepted : A → Reading A
+
+-- ------------------------------------------------------------------ the three sections
+
+-- the number that little-endian bytes are
+unfoldable pub fromLe : List ℕ → ℕ
+fromLe [] = 0
+fromLe (b ∷ bs) = b + 256 * fromLe bs
+
+-- the codes with "L"
+unfoldable pub isText : ℕ → Bool
+isText c = isCode (22 ∷ 23 ∷ 27 ∷ 32 ∷ 33 ∷ 40 ∷ 43 ∷ 44 ∷ 45 ∷ 52 ∷ 58 ∷ 59 ∷ []) c
+
+-- how many text bytes an entry takes
+unfoldable pub textWidth : Bool → ℕ → ℕ
+textWidth true v = v
+textWidth false v = 0
+
+unfoldable pub cons : Entry → Option (List Entry) → Option (List Entry)
+cons e none = none
+cons e (some es) = some (e ∷ es)
+
+-- an entry that takes w bytes of the text, and what comes behind it
+unfoldable pub takeEntry : ℕ → ℕ → ℕ → Text → (Text → Option (List Entry)) → Option (List Entry)
+takeEntry c v w t rest =
+    elim (leb w (length t)) [ true ↦ cons (record { code = c; value = v; text = take w t }) (rest (drop w t)) | false ↦ none ]
+
+-- The entries of the codes, their values and the text. "All entries and text are used up."
+unfoldable pub split : List ℕ → List ℕ → Text → Option (List Entry)
+split [] vs [] = some []
+split [] vs (b ∷ t) = none
+split (c ∷ cs) vs t =
+    let v = fromLe (take 8 vs) in
+    takeEntry c v (textWidth (isText c) v) t (λ u. split cs (drop 8 vs) u)
+
+-- "Text bytes are 20 to 7E hexadecimal."
+unfoldable pub printable : Text → Bool
+printable [] = true
+printable (b ∷ t) = (leb 32 b && leb b 126) && printable t
+
+unfoldable pub readText : Bool → Option (List Entry) → Reading (List Entry)
+readText ok none = Reading.malformed
+readText false (some es) = Reading.malformed
+readText true (some es) = Reading.accepted es
+
+-- "The slice is exactly 8 + 9N + T bytes."
+unfoldable pub readSections : ℕ → ℕ → List ℕ → Reading (List Entry)
+readSections n t rest =
+    elim (eqb (length rest) (9 * n + t)) [
+      | true ↦ readText (printable (drop (9 * n) rest)) (split (take n rest) (take (8 * n) (drop n rest)) (drop (9 * n) rest))
+      | false ↦ Reading.malformed
+    ]
+
+-- N or T over is 3, before any other 2
+unfoldable pub readSizes : ℕ → ℕ → List ℕ → Reading (List Entry)
+readSizes n t rest = elim (fitsSizes n t) [ true ↦ readSections n t rest | false ↦ Reading.tooLarge ]
+
+-- a slice under 8 bytes is 2
+unfoldable pub readTape : List ℕ → Reading (List Entry)
+readTape bytes =
+    elim (leb 8 (length bytes)) [
+      | true ↦ readSizes (fromLe (take 4 bytes)) (fromLe (take 4 (drop 4 bytes))) (drop 8 bytes)
+      | false ↦ Reading.malformed
+    ]
+
+-- ------------------------------------------------------------------ the root
+
+-- A root that is wanted: how it is taken from the stack, how it is spelled, and whether its texts and its tree keep to the
+-- largest figures.
+pub record Root (A : Type 0) : Type 0 where
+  pub reader : Pop A
+  pub flat : A → List Entry
+  pub texts : List Entry → Bool
+  pub small : A → Bool
+
+-- "in an input, a text of 64 bytes, or 255 for 22 and 23"
+unfoldable pub longestText : Bool → ℕ
+longestText true = 255
+longestText false = 64
+
+unfoldable pub shortTexts : List Entry → Bool
+shortTexts [] = true
+shortTexts (e ∷ es) = leb (length (e .text)) (longestText (isCode (22 ∷ 23 ∷ []) (e .code))) && shortTexts es
+
+-- "16 parameters"
+unfoldable pub smallBody : MacroDef → Bool
+smallBody d = leb (length (d .params)) 16 && fitsDepths (deepBody isNode (d .body)) (deepBody isCall (d .body))
+
+unfoldable pub smallBodies : List MacroDef → Bool
+smallBodies [] = true
+smallBodies (d ∷ ds) = smallBody d && smallBodies ds
+
+-- "Roots: a condition; 60; 54; for a registry a list of 60."
+unfoldable pub conditionRoot : Root Condition
+conditionRoot =
+    record {
+      reader = pop asCondition;
+      flat = flatCondition;
+      texts = shortTexts;
+      small = λ c. fitsDepths (deepCondition isNode c) (deepCondition isCall c);
+    }
+
+unfoldable pub definitionRoot : Root MacroDef
+definitionRoot = record { reader = pop asDefinition; flat = flatDef; texts = shortTexts; small = smallBody }
+
+unfoldable pub callRoot : Root Call
+callRoot =
+    record {
+      reader = pop asCall;
+      flat = flatCall;
+      texts = shortTexts;
+      small = λ c. fitsDepths (deepCall isNode c) (deepCall isCall c);
+    }
+
+unfoldable pub registryRoot : Root (List MacroDef)
+registryRoot =
+    record { reader = listOf [] _∷_ (pop asDefinition); flat = flatRegistry; texts = shortTexts; small = smallBodies }
+
+-- "A result's root is a condition or a term." The length of a text is an input's figure and not a result's.
+unfoldable pub treeRoot : Root Tree
+treeRoot =
+    record {
+      reader = pop asTree;
+      flat = flatTree;
+      texts = λ es. true;
+      small = λ t. fitsDepths (deepTree isNode t) (deepTree isCall t);
+    }
+
+-- the root's figures last, once the whole is known to be a tape with the root wanted
+unfoldable pub readLimits : {A : Type 0} → Bool → A → Reading A
+readLimits true a = Reading.accepted a
+readLimits false a = Reading.tooLarge
+
+unfoldable pub readRoot : {A : Type 0} → Root A → List Entry → Option (A × Stack) → Reading A
+readRoot root es none = Reading.malformed
+readRoot root es (some r) =
+    elim (r .1) [ [] ↦ readLimits (root .texts es && root .small (r .0)) (r .0) | _∷_ i st ↦ Reading.malformed ]
+
+unfoldable pub readStack : {A : Type 0} → Root A → List Entry → Option Stack → Reading A
+readStack root es none = Reading.malformed
+readStack root es (some st) = readRoot root es (root .reader st)
+
+unfoldable pub readTree : {A : Type 0} → Root A → Reading (List Entry) → Reading A
+readTree root Reading.malformed = Reading.malformed
+readTree root Reading.tooLarge = Reading.tooLarge
+readTree root (Reading.accepted es) = readStack root es (build es)
+
+unfoldable pub read : {A : Type 0} → Root A → List ℕ → Reading A
+read root bytes = readTree root (readTape bytes)
+
+-- what a slice's elements are
+abbrev pub Bytes : List ℕ → Type 0
+Bytes [] = Unit {0}
+Bytes (b ∷ bs) = (b < 256) × Bytes bs
+
+-- Whoever unfolds this unfolds every definition of this file.
+unfoldable pub openTape : Unit {0}
+unfolding
+    fromLe isText textWidth cons takeEntry split printable readText readSections readSizes readTape smallBody
+    smallBodies conditionRoot definitionRoot callRoot registryRoot treeRoot longestText shortTexts readLimits readRoot
+    readStack readTree read
+openTape = tt
