@@ -1,0 +1,3 @@
+-- Work areas: what the contracts say of them.
+-- Assumes nothing.
+pub mod Area

@@ -1,0 +1,270 @@
+// A work area: where an answer's entries are appended, and the tape that is made of it.
+//
+// An area at base b of a slice is 12,288 bytes: 1,024 codes at b, 1,024 values of 8 bytes at b + 1024, and 3,072 bytes of text at
+// b + 9216. Several areas may stand in one slice; what a function here writes stays within the area at the base it is given.
+// When an area has no room for what is to be appended, or its slice is too short for it, the writer says so from then on, and
+// nothing more is written: the walk goes on, since a refusal that it meets later comes first.
+ghost use mathlib.Core.Path.{_≡_};
+ghost use Prim.Native.Nat.{_+_, _*_, _≤_, _<_};
+ghost use lib.ListN.{length};
+ghost use lib.Seq.{sets};
+ghost use Rattle.format.specs.Entry.{le};
+ghost use Rattle.format.specs.Stands.{part};
+ghost use Rattle.buffer.specs.Buffer.{Decides};
+ghost use Rattle.area.specs.Area.{paper, gone, grown, headed, RoomFor, appendIn, putIn, putTextIn, generated, appendOutIn, patchIn, finishedIn};
+
+// A writer's state: its area's base, how many entries and text bytes stand there, and whether they were too many.
+pub struct Out {
+    pub base: usize,
+    pub n: usize,
+    pub t: usize,
+    pub lost: bool,
+}
+
+// The writer whose entries were too many.
+fn lose(out: Out) -> Out
+    ensures { λ r. ⌜ r ≡ gone out ⌝ }
+{
+    Out {
+        base: out.base,
+        n: out.n,
+        t: out.t,
+        lost: true,
+    }
+}
+
+// Whether an area at `base` ends within `size` bytes.
+fn has_area(size: usize, base: usize) -> bool
+    ensures { λ r. ⌜ Decides (base + 12288 ≤ size) r ⌝ }
+{
+    if size < 12288 {
+        return false;
+    }
+    base <= size - 12288
+}
+
+// Whether the area stands within `size` bytes, and has room for `entries` more entries with `bytes` bytes of text.
+fn has_room(size: usize, out: Out, entries: usize, bytes: usize) -> bool
+    ensures { λ r. ⌜ Decides (RoomFor size out entries bytes) r ⌝ }
+{
+    let base = out.base;
+    let n = out.n;
+    let t = out.t;
+    if out.lost {
+        return false;
+    }
+    if !has_area(size, base) {
+        return false;
+    }
+    if n > 1024 {
+        return false;
+    }
+    if t > 3072 {
+        return false;
+    }
+    if entries > 1024 - n {
+        return false;
+    }
+    if bytes > 3072 - t {
+        return false;
+    }
+    true
+}
+
+// Writes the codes and values of entries whose text, of `bytes` bytes, stands there already.
+fn write_heads(s: &mut [u8], out: Out, codes: &[u8], values: &[u8], bytes: usize) -> Out
+    requires { ⌜ RoomFor (length (now s)) out (length (now codes)) bytes ⌝ }
+    ensures { λ r. ⌜ paper r (now (s .exit)) ≡ paper (grown out (length (now (codes .entry))) bytes) (headed (now (s .entry)) out (now (codes .entry)) (now (values .entry))) ⌝ }
+{
+    let base = out.base;
+    let n = out.n;
+    buffer::write(s, base + n, codes);
+    buffer::write(s, base + 1024 + 8 * n, values);
+    Out {
+        base,
+        n: n + codes.len(),
+        t: out.t + bytes,
+        lost: false,
+    }
+}
+
+// Writes a run for which there is room.
+fn write_run(s: &mut [u8], out: Out, codes: &[u8], values: &[u8], text: &[u8]) -> Out
+    requires { ⌜ RoomFor (length (now s)) out (length (now codes)) (length (now text)) × (length (now values) ≡ 8 * length (now codes)) ⌝ }
+    ensures { λ r. ⌜ paper r (now (s .exit)) ≡ appendIn (now (codes .entry)) (now (values .entry)) (now (text .entry)) (paper out (now (s .entry))) ⌝ }
+{
+    buffer::write(s, out.base + 9216 + out.t, text);
+    write_heads(s, out, codes, values, text.len())
+}
+
+// Whether there is room for a run whose parts have these lengths, and it has 8 bytes for each value.
+fn has_run_room(size: usize, out: Out, codes: usize, values: usize, text: usize) -> bool
+    ensures { λ r. ⌜ Decides (RoomFor size out codes text × (values ≡ 8 * codes)) r ⌝ }
+{
+    if values / 8 != codes {
+        return false;
+    }
+    if values % 8 != 0 {
+        return false;
+    }
+    has_room(size, out, codes, text)
+}
+
+// Appends a run of entries, given as the three parts of a tape that spell it.
+pub fn append_run(s: &mut [u8], out: Out, codes: &[u8], values: &[u8], text: &[u8]) -> Out
+    ensures { λ r. ⌜ paper r (now (s .exit)) ≡ appendIn (now (codes .entry)) (now (values .entry)) (now (text .entry)) (paper out (now (s .entry))) ⌝ }
+{
+    if has_run_room(s.len(), out, codes.len(), values.len(), text.len()) {
+        write_run(s, out, codes, values, text)
+    } else {
+        lose(out)
+    }
+}
+
+// Appends an entry without text.
+pub fn put(s: &mut [u8], out: Out, code: u8, value: u64) -> Out
+    ensures { λ r. ⌜ paper r (now (s .exit)) ≡ putIn code value (paper out (now (s .entry))) ⌝ }
+{
+    append_run(s, out, &[code], &buffer::value_bytes(value), b"")
+}
+
+// Appends an entry with text; its value is the text's length.
+pub fn put_text(s: &mut [u8], out: Out, code: u8, text: &[u8]) -> Out
+    ensures { λ r. ⌜ paper r (now (s .exit)) ≡ putTextIn code (now (text .entry)) (paper out (now (s .entry))) ⌝ }
+{
+    append_run(
+        s,
+        out,
+        &[code],
+        &buffer::value_bytes(text.len() as u64),
+        text,
+    )
+}
+
+// Writes `name`, `$` and `start` in decimal at the front of `text`, as far as it reaches.
+fn write_generated(text: &mut [u8], name: &[u8], start: u32)
+    ensures { λ _. ⌜ now (text .exit) ≡ sets (now (text .entry)) 0 (generated (now (name .entry)) start) ⌝ }
+{
+    let size = text.len();
+    let dollar = name.len();
+    buffer::write(text, 0, name);
+    buffer::write(text, dollar, b"$");
+    if dollar < size {
+        let behind = dollar + 1;
+        buffer::digits(&mut text[behind..], start);
+    }
+}
+
+// Appends an entry with a generated name of `bytes` bytes, for which there is room.
+fn generate(s: &mut [u8], out: Out, code: u8, name: &[u8], start: u32, bytes: usize) -> Out
+    requires { ⌜ RoomFor (length (now s)) out 1 bytes × (bytes ≡ length (generated (now name) start)) ⌝ }
+    ensures { λ r. ⌜ paper r (now (s .exit)) ≡ putTextIn code (generated (now (name .entry)) start) (paper out (now (s .entry))) ⌝ }
+{
+    let from = out.base + 9216 + out.t;
+    let end = from + bytes;
+    write_generated(&mut s[from..end], name, start);
+    write_heads(s, out, &[code], &buffer::value_bytes(bytes as u64), bytes)
+}
+
+// Appends an entry whose text is `name`, `$` and `start` in decimal.
+pub fn put_generated(s: &mut [u8], out: Out, code: u8, name: &[u8], start: u32) -> Out
+    ensures { λ r. ⌜ paper r (now (s .exit)) ≡ putTextIn code (generated (now (name .entry)) start) (paper out (now (s .entry))) ⌝ }
+{
+    let bytes = name.len() + 1 + buffer::digit_count(start);
+    if has_room(s.len(), out, 1, bytes) {
+        generate(s, out, code, name, start, bytes)
+    } else {
+        lose(out)
+    }
+}
+
+// Appends all that an area holds, one of another slice.
+fn append_whole(s: &mut [u8], out: Out, from: &[u8], other: Out) -> Out
+    requires { ⌜ RoomFor (length (now from)) other 0 0 ⌝ }
+    ensures { λ r. ⌜ paper r (now (s .exit)) ≡ appendOutIn (paper other (now (from .entry))) (paper out (now (s .entry))) ⌝ }
+{
+    let codes = other.base;
+    let values = codes + 1024;
+    let text = codes + 9216;
+    append_run(
+        s,
+        out,
+        &from[codes..codes + other.n],
+        &from[values..values + 8 * other.n],
+        &from[text..text + other.t],
+    )
+}
+
+// Appends all that was written to another area, one of another slice.
+pub fn append_out(s: &mut [u8], out: Out, from: &[u8], other: Out) -> Out
+    ensures { λ r. ⌜ paper r (now (s .exit)) ≡ appendOutIn (paper other (now (from .entry))) (paper out (now (s .entry))) ⌝ }
+{
+    if has_room(from.len(), other, 0, 0) {
+        append_whole(s, out, from, other)
+    } else {
+        lose(out)
+    }
+}
+
+// Adds to the value of an entry that the area holds.
+fn add_value(s: &mut [u8], out: Out, index: usize, added: u64)
+    requires { ⌜ RoomFor (length (now s)) out 0 0 × (index < out .n) ⌝ }
+    ensures { λ _. ⌜ paper out (now (s .exit)) ≡ patchIn index added (paper out (now (s .entry))) ⌝ }
+{
+    let at = out.base + 1024 + 8 * index;
+    let value = std::num::wrapping_add_u64(buffer::read_value(s, at), added);
+    buffer::write(s, at, &buffer::value_bytes(value));
+}
+
+// Adds to the value of the entry at `index`: a list's count, when items are put behind it.
+pub fn patch_count(s: &mut [u8], out: Out, index: usize, added: u64)
+    ensures { λ _. ⌜ paper out (now (s .exit)) ≡ patchIn index added (paper out (now (s .entry))) ⌝ }
+{
+    if index < out.n {
+        if has_room(s.len(), out, 0, 0) {
+            add_value(s, out, index, added);
+        }
+    }
+}
+
+// Writes the two sizes of a tape.
+fn write_sizes(result: &mut [u8], n: usize, t: usize)
+    ensures { λ _. ⌜ now (result .exit) ≡ sets (sets (now (result .entry)) 0 (le 4 n)) 4 (le 4 t) ⌝ }
+{
+    buffer::write_size(result, 0, n);
+    buffer::write_size(result, 4, t);
+}
+
+// Writes `count` bytes of `s`, from `from` on, into `result` at `at`.
+fn write_section(result: &mut [u8], at: usize, s: &[u8], from: usize, count: usize)
+    requires { ⌜ from + count ≤ length (now s) ⌝ }
+    ensures { λ _. ⌜ now (result .exit) ≡ sets (now (result .entry)) at (part (now (s .entry)) from count) ⌝ }
+{
+    buffer::write(result, at, &s[from..from + count]);
+}
+
+// Writes the tape of what an area holds, and zeros behind it.
+fn write_tape(s: &[u8], out: Out, result: &mut [u8])
+    requires { ⌜ RoomFor (length (now s)) out 0 0 ⌝ }
+    ensures { λ _. ⌜ now (result .exit) ≡ finishedIn (paper out (now (s .entry))) (now (result .entry)) ⌝ }
+{
+    let base = out.base;
+    let n = out.n;
+    let t = out.t;
+    write_sizes(result, n, t);
+    write_section(result, 8, s, base, n);
+    write_section(result, 8 + n, s, base + 1024, 8 * n);
+    write_section(result, 8 + 9 * n, s, base + 9216, t);
+    buffer::zero_from(result, 8 + 9 * n + t);
+}
+
+// Writes the tape of the entries, and zeros behind it; zeros alone where they were too many.
+pub fn finish(s: &[u8], out: Out, result: &mut [u8])
+    ensures { λ _. ⌜ now (result .exit) ≡ finishedIn (paper out (now (s .entry))) (now (result .entry)) ⌝ }
+{
+    if has_room(s.len(), out, 0, 0) {
+        write_tape(s, out, result);
+    } else {
+        buffer::zero(result);
+    }
+}

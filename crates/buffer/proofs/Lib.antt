@@ -1,0 +1,9 @@
+-- Laws of bytes in buffers, for the proofs here and above.
+-- Assumes nothing.
+pub mod Decides
+pub mod Numbers
+pub mod Sets
+pub mod Kept
+pub mod Zeros
+pub mod Messages
+pub mod Lent

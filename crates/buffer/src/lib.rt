@@ -1,0 +1,166 @@
+// Bytes in lent slices: written, zeroed, and read as numbers; and messages, written piece by piece.
+//
+// A write goes as far as its slice reaches, and a read takes what lies past the end for zeros, so nothing here asks anything of a caller.
+ghost use mathlib.Core.Path.{_≡_};
+ghost use mathlib.Core.List.{[]};
+ghost use Prim.Native.Nat.{min, _+_, _<_};
+ghost use lib.ListN.{length, getD};
+ghost use lib.Seq.{sets};
+ghost use Rattle.format.specs.Entry.{le};
+ghost use Rattle.format.specs.Tape.{fromLe};
+ghost use Rattle.format.specs.Stands.{part};
+ghost use Rattle.definition.specs.Text.{decimal};
+ghost use Rattle.definition.specs.Answers.{padded};
+ghost use Rattle.buffer.specs.Buffer.{zeroed, messageIn, writeIn};
+
+// Writes `piece` into `s` from `at` on, as far as `s` reaches.
+pub fn write(s: &mut [u8], at: usize, piece: &[u8])
+    ensures { λ _. ⌜ now (s .exit) ≡ sets (now (s .entry)) at (now (piece .entry)) ⌝ }
+{
+    let mut i = at;
+    let mut j = 0;
+    while i < s.len() && j < piece.len() {
+        s[i] = piece[j];
+        i += 1;
+        j += 1;
+    }
+}
+
+// Fills `s` from `at` on with zeros.
+pub fn zero_from(s: &mut [u8], at: usize)
+    ensures { λ _. ⌜ now (s .exit) ≡ zeroed (now (s .entry)) at ⌝ }
+{
+    let mut i = at;
+    while i < s.len() {
+        s[i] = 0;
+        i += 1;
+    }
+}
+
+// Fills `s` with zeros.
+pub fn zero(s: &mut [u8])
+    ensures { λ _. ⌜ now (s .exit) ≡ padded (length (now (s .entry))) [] ⌝ }
+{
+    zero_from(s, 0);
+}
+
+// The byte at `i`.
+fn byte(s: &[u8], i: usize) -> u32
+    ensures { λ r. ⌜ (r ≡ getD (now (s .entry)) i 0) × (r < 256) ⌝ }
+{
+    if i < s.len() { s[i] as u32 } else { 0 }
+}
+
+// The number whose 4 bytes stand at `at`.
+pub fn read_size(s: &[u8], at: usize) -> u32
+    ensures { λ r. ⌜ r ≡ fromLe (part (now (s .entry)) at 4) ⌝ }
+{
+    if at >= s.len() {
+        return 0;
+    }
+    let v2 = byte(s, at + 2) + 256 * byte(s, at + 3);
+    byte(s, at) + 256 * (byte(s, at + 1) + 256 * v2)
+}
+
+// The number whose 8 bytes stand at `at`.
+pub fn read_value(s: &[u8], at: usize) -> u64
+    ensures { λ r. ⌜ r ≡ fromLe (part (now (s .entry)) at 8) ⌝ }
+{
+    if at >= s.len() {
+        return 0;
+    }
+    let low = read_size(s, at) as u64;
+    let high = read_size(s, at + 4) as u64;
+    low + 4294967296 * high
+}
+
+// The 8 bytes of a value.
+pub fn value_bytes(v: u64) -> [u8; 8]
+    ensures { λ r. ⌜ r ≡ le 8 v ⌝ }
+{
+    let v1 = v / 256;
+    let v2 = v1 / 256;
+    let v3 = v2 / 256;
+    let v4 = v3 / 256;
+    let v5 = v4 / 256;
+    let v6 = v5 / 256;
+    let v7 = v6 / 256;
+    [
+        (v % 256) as u8,
+        (v1 % 256) as u8,
+        (v2 % 256) as u8,
+        (v3 % 256) as u8,
+        (v4 % 256) as u8,
+        (v5 % 256) as u8,
+        (v6 % 256) as u8,
+        (v7 % 256) as u8,
+    ]
+}
+
+// Writes the 4 bytes of a size into `s` from `at` on, as far as `s` reaches.
+pub fn write_size(s: &mut [u8], at: usize, size: usize)
+    ensures { λ _. ⌜ now (s .exit) ≡ sets (now (s .entry)) at (le 4 size) ⌝ }
+{
+    let bytes = value_bytes(size as u64);
+    write(s, at, &bytes[0..4]);
+}
+
+// How many decimal digits a number has.
+pub fn digit_count(n: u32) -> usize
+    ensures { λ r. ⌜ r ≡ length (decimal n) ⌝ }
+{
+    let mut left = n;
+    let mut count = 1;
+    while left >= 10 {
+        left = left / 10;
+        count += 1;
+    }
+    count
+}
+
+// Writes the decimal digits of `n` at the front of `d`, as far as it reaches, and answers how many they are.
+pub fn digits(d: &mut [u8], n: u32) -> usize
+    ensures { λ r. ⌜ (now (d .exit) ≡ sets (now (d .entry)) 0 (decimal n)) × (r ≡ length (decimal n)) ⌝ }
+{
+    if n < 10 {
+        write(d, 0, &[48 + n as u8]);
+        1
+    } else {
+        let k = digits(d, n / 10);
+        write(d, k, &[48 + (n % 10) as u8]);
+        k + 1
+    }
+}
+
+// Where a message ends that had ended at `at`, once `count` bytes are written behind it into a buffer of `size`.
+fn end_of(size: usize, at: usize, count: usize) -> usize
+    ensures { λ r. ⌜ r ≡ min size (at + count) ⌝ }
+{
+    if at < size {
+        if count < size - at {
+            return at + count;
+        }
+    }
+    size
+}
+
+// Writes `piece` behind a message that ends at `at`, as far as the buffer reaches, and answers where it then ends.
+pub fn write_at(message: &mut [u8], at: usize, piece: &[u8]) -> usize
+    ensures { λ r. ⌜ messageIn (now (message .exit)) r ≡ writeIn (now (piece .entry)) (messageIn (now (message .entry)) at) ⌝ }
+{
+    write(message, at, piece);
+    end_of(message.len(), at, piece.len())
+}
+
+// The same for a number, in decimal.
+pub fn write_number(message: &mut [u8], at: usize, n: u32) -> usize
+    ensures { λ r. ⌜ messageIn (now (message .exit)) r ≡ writeIn (decimal n) (messageIn (now (message .entry)) at) ⌝ }
+{
+    let size = message.len();
+    if at < size {
+        let count = digits(&mut message[at..], n);
+        end_of(size, at, count)
+    } else {
+        size
+    }
+}

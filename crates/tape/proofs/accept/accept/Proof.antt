@@ -1,0 +1,23 @@
+-- `tape::accept::accept` meets its contract.
+-- Assumes nothing.
+use mathlib.Core.Path.{_∙_}
+use borrow.Author.Needs.{needs}
+use Rattle.tape.proofs.accept.accept.Statement.{statement}
+use Rattle.tape.proofs.accept.accept.Tie as tie
+use Rattle.tape.proofs.accept.accept.Reads as reads
+use Rattle.tape.proofs.accept.accept.Lts as lts
+use Rattle.tape.proofs.accept.accept_in.Reads as accept-in-reads
+use Rattle.tape.proofs.header.open.Reads as open-reads
+
+returns : tie.Need-returns
+returns c =
+    c .accept-in .ensures ∙ rw (← c .before .before .before .before .«open» .ensures, c .before .before .l .given .1)
+
+returns-2 : tie.Need-returns-2
+returns-2 c = rw (← c .before .before .before .«open» .ensures, c .before .n .given .1)
+
+pub accept-spec : {M : Type 1} → statement M
+accept-spec =
+    tie.close
+    (tie.spec
+    (λ c κs. search needs) (λ c. search needs) (λ c κs. search needs) (λ c. search needs) returns returns-2)

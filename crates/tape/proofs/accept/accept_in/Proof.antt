@@ -1,0 +1,24 @@
+-- `tape::accept::accept_in` meets its contract.
+-- Assumes nothing.
+use mathlib.Core.Path.{_∙_}
+use borrow.Author.Needs.{needs}
+use Rattle.tape.proofs.accept.accept_in.Statement.{statement}
+use Rattle.tape.proofs.accept.accept_in.Tie as tie
+use Rattle.tape.proofs.accept.accept_in.Reads as reads
+use Rattle.tape.proofs.accept.accept_in.Lts as lts
+use Rattle.tape.proofs.accept.judge.Reads as judge-reads
+use Rattle.tape.proofs.scan.scan.Reads as scan-reads
+use Rattle.tape.proofs.text.is_printable.Reads as is-printable-reads
+
+returns : tie.Need-returns
+returns c =
+    c .judge .ensures ∙ rw (← c .before .before .before .is-printable .ensures, c .before .before .if1 .taken, c .before .scan .ensures)
+
+returns-2 : tie.Need-returns-2
+returns-2 c = rw (← c .before .is-printable .ensures, c .if1 .left)
+
+pub accept-in-spec : {M : Type 1} → statement M
+accept-in-spec =
+    tie.close
+    (tie.spec
+    (λ c κs. search needs) (λ c κs. search needs) (λ c κs. search needs) returns returns-2)

@@ -1,0 +1,20 @@
+-- `tape::scan::skip` meets its contract.
+-- Assumes nothing.
+use borrow.Author.Needs.{needs}
+use Rattle.tape.proofs.scan.skip.Statement.{statement}
+use Rattle.tape.proofs.scan.skip.Tie as tie
+use Rattle.tape.proofs.scan.skip.Reads as reads
+use Rattle.tape.proofs.scan.skip.Lts as lts
+use Rattle.tape.proofs.scan.scan.Reads as scan-reads
+
+returns : tie.Need-returns
+returns c = rw (← c .before .before .scan .ensures, c .enum-told .given .1)
+
+returns-2 : tie.Need-returns-2
+returns-2 c = rw (← c .before .before .before .scan .ensures, c .before .p .given .1)
+
+pub skip-spec : {M : Type 1} → statement M
+skip-spec =
+    tie.close
+    (tie.spec
+    (λ c κs. search needs) (λ c. search needs) (λ c. search needs) returns returns-2)

@@ -1,0 +1,20 @@
+-- `tape::scan::too_deep` meets its contract.
+-- Assumes nothing.
+use borrow.Author.Needs.{needs}
+use Rattle.tape.proofs.scan.too_deep.Statement.{statement}
+use Rattle.tape.proofs.scan.too_deep.Tie as tie
+use Rattle.tape.proofs.scan.too_deep.Reads as reads
+use Rattle.tape.proofs.scan.too_deep.Lts as lts
+use Rattle.tape.proofs.scan.scan.Reads as scan-reads
+
+returns : tie.Need-returns
+returns c = rw (← c .before .before .scan .ensures, c .enum-told .given .1)
+
+returns-2 : tie.Need-returns-2
+returns-2 c = rw (← c .before .before .before .scan .ensures, c .before .over .given .1)
+
+pub too-deep-spec : {M : Type 1} → statement M
+too-deep-spec =
+    tie.close
+    (tie.spec
+    (λ c κs. search needs) (λ c. search needs) (λ c. search needs) returns returns-2)

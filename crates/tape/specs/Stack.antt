@@ -1,0 +1,121 @@
+-- The stack of a scan in memory, and the rows of the grammar as numbers.
+-- Assumes nothing.
+use Prim.Native.Nat.{ℕ, zero, suc, _+_, _-_, _*_, _/_, _%_, _≤_, _<_}
+use mathlib.Core.Path.{_≡_}
+use mathlib.Core.List.{List, [], _∷_, _++_, map}
+use mathlib.Core.Bool.{Bool, _&&_, _||_}
+use lib.Dec.{leb, ltb, eqb}
+use lib.ListN.{length, drop, replicate}
+use Rattle.tape.specs.Grammar.{Sort, sorts, Follows, once, each, Row, rows}
+use Rattle.tape.specs.Layouts.{Held, entriesAt}
+use Rattle.tape.specs.Pick.{pick}
+use Rattle.tape.specs.Scan.{Wait, waits, counted, scanOf}
+use Rattle.tape.specs.declared.grammar.Row.{Row as RowWord}
+use Rattle.tape.specs.declared.layout.Layout.{Layout}
+use Rattle.tape.specs.declared.layout.Place.{Place}
+use Rattle.tape.specs.declared.scan.Scanned.the-variants.{Malformed}
+use Rattle.tape.specs.declared.scan.Turn.{Turn}
+use Rattle.tape.specs.declared.scan.Turn.the-variants.{Refused, Passed}
+use Rattle.tape.specs.declared.stack.Cell.{Cell}
+
+-- the sorts of a word in base 64, the first lowest, and the last of them `more` times more; k digits at the most
+abbrev pub sortsIn : ℕ → ℕ → ℕ → List ℕ
+sortsIn zero w more = []
+sortsIn (suc k) w more = pick (ltb w 64) (w ∷ replicate more w) (w % 64 ∷ sortsIn k (w / 64) more)
+
+-- 40 octal and a sort stand for as many of it as the value says
+abbrev pub isEach : ℕ → Bool
+isEach w = leb 32 w && ltb w 64
+
+unfoldable pub followsOf : ℕ → Follows
+followsOf w = pick (eqb w 0) (once []) (pick (isEach w) (each (w - 32)) (once (sortsIn 5 w 0)))
+
+-- the table in one list of numbers: a sort, a row
+abbrev pub rangeWord : Sort → ℕ
+rangeWord s = 256 * s .low + s .high
+
+abbrev pub digits : List ℕ → ℕ
+digits [] = 0
+digits (s ∷ ss) = s + 64 * digits ss
+
+abbrev pub followsWord : Follows → ℕ
+followsWord (once ss) = digits ss
+followsWord (each s) = 32 + s
+
+abbrev pub rowWord : Row → ℕ
+rowWord r = 0x40000000 * r .values + followsWord (r .follows)
+
+unfoldable pub grammarWords : List ℕ
+grammarWords = map rangeWord sorts ++ map rowWord rows
+
+pub record IsRow (r : RowWord) (row : Row) : Type 0 where
+  pub values-are : r .values ≡ row .values
+  pub follows-are : followsOf (r .follows) ≡ row .follows
+  pub word-fits : r .follows < 0x40000000
+
+abbrev pub cell : ℕ → ℕ → ℕ → ℕ → Cell
+cell word more nesting calls = record { word = word; more = more; nesting = nesting; calls = calls }
+
+-- a cell in one number
+abbrev pub cellOf : ℕ → Cell
+cellOf w = cell (w % 0x40000000) (w / 0x40000000 % 2048) (w / 0x20000000000 % 128) (w / 0x1000000000000 % 8)
+
+pub record Fits (c : Cell) : Type 0 where
+  pub word-fits : c .word < 0x40000000
+  pub more-fits : c .more < 2048
+  pub nesting-fits : c .nesting < 128
+  pub calls-fits : c .calls < 8
+
+-- what a cell waits for
+unfoldable pub waitsOf : Cell → List Wait
+waitsOf c = waits (c .nesting) (c .calls) (sortsIn 5 (c .word) (c .more))
+
+-- what the cells from `top` on wait for
+abbrev pub waitsIn : List ℕ → List Wait
+waitsIn [] = []
+waitsIn (w ∷ ws) = waitsOf (cellOf w) ++ waitsIn ws
+
+abbrev pub stackOf : List ℕ → ℕ → List Wait
+stackOf s top = waitsIn (drop top s)
+
+-- at most k cells more, after which the stack is st
+pub record Grown (top k : ℕ) (after : List ℕ) (r : ℕ) (st : List Wait) : Type 0 where
+  pub up : r ≤ top
+  pub most : top ≤ r + k
+  pub stack-is : stackOf after r ≡ st
+
+-- what a cell may hold
+pub record Room (follows value nesting calls : ℕ) : Type 0 where
+  pub word-room : follows < 0x40000000
+  pub more-room : counted (followsOf follows) value < 2048
+  pub nesting-room : nesting < 128
+  pub calls-room : calls < 8
+
+-- the slice holds the layout, the place is in it, and the sort is one
+pub record Starts (s : List ℕ) (l : Layout) (from : Place) (sort : ℕ) : Type 0 where
+  pub held : Held s l
+  pub at-most : from .at ≤ l .entries
+  pub text-most : from .text ≤ l .size
+  pub is-sort : sort < 25
+
+-- what a turn asks: a cell on the stack and room for one more, an entry, and the table
+pub record CanTurn (stack grammar s : List ℕ) (l : Layout) (top at text : ℕ) : Type 0 where
+  pub table : grammar ≡ grammarWords
+  pub held : Held s l
+  pub some-room : 0 < top
+  pub some-cell : top < length stack
+  pub some-entry : at < l .entries
+  pub some-text : text ≤ l .size
+
+-- the scan goes on with one entry less
+pub record TurnedOn (limited : Bool) (s : List ℕ) (l : Layout) (stack : List ℕ) (top at text next behind : ℕ) (more : Bool) (after : List ℕ) : Type 0 where
+  pub up : next ≤ top + 1
+  pub most : top ≤ next + 1
+  pub text-most : behind ≤ l .size
+  pub goes-on : (over : Bool) → scanOf limited (l .size) (entriesAt s l at text (l .entries - at)) (stackOf stack top) at text over
+      ≡ scanOf limited (l .size) (entriesAt s l (at + 1) behind (l .entries - (at + 1))) (stackOf after next) (at + 1) behind (over || more)
+
+abbrev pub Turned : Bool → List ℕ → Layout → List ℕ → ℕ → ℕ → ℕ → Turn → List ℕ → Type 0
+Turned limited s l stack top at text Refused after =
+    (over : Bool) → scanOf limited (l .size) (entriesAt s l at text (l .entries - at)) (stackOf stack top) at text over ≡ Malformed
+Turned limited s l stack top at text (Passed next behind more) after = TurnedOn limited s l stack top at text next behind more after

@@ -1,0 +1,54 @@
+// The acceptance of a tape.
+use crate::header::Opened;
+use crate::header::open;
+use crate::layout::Layout;
+use crate::layout::Place;
+use crate::scan::Scanned;
+use crate::scan::scan;
+use crate::text::is_printable;
+ghost use mathlib.Core.Path.{_≡_};
+ghost use Rattle.tape.specs.Accept.{acceptOf, acceptIn, judged};
+
+// The layout of a tape whose root is of a sort and which passes no largest figure of an input, or the refusal's number.
+pub fn accept(s: &[u8], sort: u64) -> Opened
+    ensures { λ r. ⌜ r ≡ acceptOf (now (s .entry)) sort ⌝ }
+{
+    match open(s) {
+        Opened::Tape(l) => accept_in(s, l, sort),
+        Opened::Refused(n) => Opened::Refused(n),
+    }
+}
+
+fn accept_in(s: &[u8], l: Layout, sort: u64) -> Opened
+    ensures { λ r. ⌜ r ≡ acceptIn (now (s .entry)) sort l ⌝ }
+{
+    if is_printable(s, l.text) {
+        judge(l, scan(s, l, Place { at: 0, text: 0 }, sort, true))
+    } else {
+        Opened::Refused(2)
+    }
+}
+
+// A scan that ends where entries and text are used up found the root wanted.
+fn judge(l: Layout, found: Scanned) -> Opened
+    ensures { λ r. ⌜ r ≡ judged l found ⌝ }
+{
+    let Scanned::Ends(p, over) = found else {
+        return Opened::Refused(2);
+    };
+    let at = p.at;
+    let text = p.text;
+    let entries = l.entries;
+    let size = l.size;
+    if at != entries {
+        return Opened::Refused(2);
+    }
+    if text != size {
+        return Opened::Refused(2);
+    }
+    if over {
+        Opened::Refused(3)
+    } else {
+        Opened::Tape(l)
+    }
+}
