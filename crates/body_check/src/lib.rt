@@ -1,0 +1,91 @@
+// The body check of macros/mod.rs (document 01, module 4): the first refusal of a definition's body.
+use answer::Answer;
+use answer::Verdict;
+use answer::bare;
+use answer::conclude;
+use tape::accept::accept;
+use tape::header::Opened;
+use tape::layout::Layout;
+use tape::layout::Place;
+use tape::node::BodyNode;
+use tape::node::BodyRead;
+use tape::node::HeadingRead;
+use tape::node::past_params;
+use tape::node::read_body;
+use tape::node::read_heading;
+use tape::scan::Skipped;
+ghost use mathlib.Core.List.{[]};
+ghost use mathlib.Core.Path.{_≡_};
+ghost use lib.ListN.{length};
+ghost use Rattle.answer.specs.Told.{told};
+ghost use Rattle.definition.specs.Answers.{checkAnswer};
+ghost use Rattle.body_check.specs.Definition.{bodyIn, defIn, verdictOf};
+
+pub mod body;
+pub mod names;
+
+use crate::body::check_temporal_condition_body;
+use crate::body::check_temporal_value_body;
+use crate::names::Checked;
+use crate::names::Declared;
+use crate::names::malformed;
+use crate::names::silent;
+
+// A Cedar body passes unread.
+fn check_body(s: &[u8], d: Declared, node: BodyNode, next: Place) -> Checked
+    ensures { λ r. ⌜ r ≡ bodyIn (now (s .entry)) d node next ⌝ }
+{
+    let w = Checked::Passed(next);
+    match node {
+        BodyNode::Cedar => w,
+        BodyNode::Condition => check_temporal_condition_body(64, s, d, w),
+        BodyNode::Value => check_temporal_value_body(64, s, d, w),
+    }
+}
+
+// The definition that stands at a place.
+fn check_def(s: &[u8], l: Layout, p: Place) -> Checked
+    ensures { λ r. ⌜ r ≡ defIn (now (s .entry)) l p ⌝ }
+{
+    let HeadingRead::Node(heading, params) = read_heading(s, l, p, 60) else {
+        return malformed();
+    };
+    let count = heading.count;
+    let Skipped::At(body) = past_params(s, l, params, count) else {
+        return malformed();
+    };
+    let d = Declared {
+        layout: l,
+        params,
+        count,
+    };
+    match read_body(s, l, body) {
+        BodyRead::Node(node, next) => check_body(s, d, node, next),
+        BodyRead::Refused(f) => silent(f),
+    }
+}
+
+fn judged(w: Checked) -> Verdict
+    ensures { λ r. ⌜ r ≡ verdictOf w ⌝ }
+{
+    match w {
+        Checked::Passed(_) => Verdict::Passes,
+        Checked::Refused(r) => Verdict::Refused(r),
+    }
+}
+
+// The operation: the answer and every byte of the message buffer are what the definition says, for every slice and every buffer.
+pub fn check(definition: &[u8], message: &mut [u8]) -> Answer
+    ensures { λ r. ⌜ told r [] [] (now (message .exit)) ≡ checkAnswer (length (now (message .entry))) (now (definition .entry)) ⌝ }
+{
+    if message.len() < 2048 {
+        return bare(1, 0, message);
+    }
+    match accept(definition, 14) {
+        Opened::Tape(l) => {
+            let w = check_def(definition, l, Place { at: 0, text: 0 });
+            conclude(definition, l, judged(w), message)
+        }
+        Opened::Refused(number) => bare(number, 0, message),
+    }
+}

@@ -1,0 +1,196 @@
+// The names of a body: those that are declared, and the sigils, withins and slots that name something.
+use messages::Reason;
+use messages::Refused;
+use messages::names::ParamRead;
+use messages::names::read_param;
+use messages::refuse;
+use tape::layout::Layout;
+use tape::layout::Place;
+use tape::node::Name;
+use tape::node::Refusal;
+use tape::node::Sigil;
+use tape::node::SlotNode;
+use tape::node::SlotRead;
+use tape::node::ValueRead;
+use tape::node::WithinNode;
+use tape::node::WithinRead;
+use tape::node::expect;
+use tape::node::name_at;
+use tape::node::past_type;
+use tape::node::read_slot;
+use tape::node::read_within;
+use tape::node::same_text;
+use tape::scan::Skipped;
+ghost use mathlib.Core.Path.{_≡_};
+ghost use Rattle.definition.specs.Check.{contains};
+ghost use Rattle.tape.specs.Node.{nameAt};
+ghost use Rattle.body_check.specs.Names.{declaredIn, refusedIn, silentOf, malformedIn, thenTake, paramIn, plainIn, sigilIn, slotIn, withinIn, binderIn, bindersIn};
+
+// A definition's tape, and where its parameters stand.
+pub struct Declared {
+    pub layout: Layout,
+    pub params: Place,
+    pub count: u64,
+}
+
+// The place behind what was walked, or the first refusal.
+pub enum Checked {
+    Passed(Place),
+    Refused(Refused),
+}
+
+// No node stands there, which no accepted tape shows.
+pub fn silent(f: Refusal) -> Checked
+    ensures { λ r. ⌜ r ≡ silentOf f ⌝ }
+{
+    let span = f.span;
+    Checked::Refused(Refused {
+        span,
+        reason: Reason::Silent(f.number),
+    })
+}
+
+pub fn stop(span: u64, reason: Reason) -> Checked
+    ensures { λ r. ⌜ r ≡ refusedIn span reason ⌝ }
+{
+    Checked::Refused(refuse(span, reason))
+}
+
+// No list stands there.
+pub fn malformed() -> Checked
+    ensures { λ r. ⌜ r ≡ malformedIn ⌝ }
+{
+    stop(0, Reason::Silent(2))
+}
+
+// The second answer, unless the first is a refusal.
+pub fn take(first: Checked, second: Checked) -> Checked
+    ensures { λ r. ⌜ r ≡ thenTake first second ⌝ }
+{
+    let Checked::Passed(_) = first else {
+        return first;
+    };
+    second
+}
+
+// Whether a name is declared.
+fn contains(s: &[u8], d: Declared, name: Name) -> bool
+    ensures { λ r. ⌜ r ≡ contains (declaredIn (now (s .entry)) d) (nameAt (now (s .entry)) (d .layout) name) ⌝ }
+{
+    let l = d.layout;
+    let mut p = d.params;
+    let mut left = d.count;
+    while 0 < left {
+        let ParamRead::Param(param, next) = read_param(s, l, p) else {
+            return false;
+        };
+        if same_text(name_at(s, l, param), name_at(s, l, name)) {
+            return true;
+        }
+        p = next;
+        left = left - 1;
+    }
+    false
+}
+
+// `?name`, in any of its places.
+pub fn check_param(s: &[u8], d: Declared, span: u64, name: Name, next: Place) -> Checked
+    ensures { λ r. ⌜ r ≡ paramIn (now (s .entry)) d span name next ⌝ }
+{
+    if contains(s, d, name) {
+        Checked::Passed(next)
+    } else {
+        let params = d.params;
+        stop(span, Reason::Undeclared(name, params, d.count))
+    }
+}
+
+pub fn plain_ident_in_body(name: Name, span: u64) -> Checked
+    ensures { λ r. ⌜ r ≡ plainIn name span ⌝ }
+{
+    stop(span, Reason::PlainIdentifier(name))
+}
+
+// `$` as a whole condition passes: it is 43 once it is substituted.
+pub fn check_sigil_ref(
+    s: &[u8],
+    d: Declared,
+    span: u64,
+    sigil: Sigil,
+    name: Name,
+    next: Place,
+) -> Checked
+    ensures { λ r. ⌜ r ≡ sigilIn (now (s .entry)) d span sigil name next ⌝ }
+{
+    match sigil {
+        Sigil::Param => check_param(s, d, span, name, next),
+        Sigil::Binder => Checked::Passed(next),
+    }
+}
+
+pub fn check_within_in_body(s: &[u8], d: Declared, span: u64, w: Checked) -> Checked
+    ensures { λ r. ⌜ r ≡ withinIn (now (s .entry)) d span w ⌝ }
+{
+    let Checked::Passed(p) = w else {
+        return w;
+    };
+    match read_within(s, d.layout, p) {
+        WithinRead::Node(node, next) => match node {
+            WithinNode::Concrete => Checked::Passed(next),
+            WithinNode::ParamRef(name) => check_param(s, d, span, name, next),
+        },
+        WithinRead::Refused(f) => silent(f),
+    }
+}
+
+pub fn check_binder_slot(s: &[u8], d: Declared, span: u64, w: Checked) -> Checked
+    ensures { λ r. ⌜ r ≡ slotIn (now (s .entry)) d span w ⌝ }
+{
+    let Checked::Passed(p) = w else {
+        return w;
+    };
+    match read_slot(s, d.layout, p) {
+        SlotRead::Node(node, next) => match node {
+            SlotNode::Name(name) => plain_ident_in_body(name, span),
+            SlotNode::ParamRef(name) => check_param(s, d, span, name, next),
+            SlotNode::BinderRef(_) => Checked::Passed(next),
+        },
+        SlotRead::Refused(f) => silent(f),
+    }
+}
+
+// A slot and its type.
+pub fn check_binder(s: &[u8], d: Declared, span: u64, w: Checked) -> Checked
+    ensures { λ r. ⌜ r ≡ binderIn (now (s .entry)) d span w ⌝ }
+{
+    let slot = check_binder_slot(s, d, span, w);
+    let Checked::Passed(p) = slot else {
+        return slot;
+    };
+    match past_type(s, d.layout, p) {
+        Skipped::At(next) => Checked::Passed(next),
+        Skipped::Nowhere => malformed(),
+    }
+}
+
+// A list of slots with types.
+pub fn check_binders(s: &[u8], d: Declared, span: u64, w: Checked) -> Checked
+    ensures { λ r. ⌜ r ≡ bindersIn (now (s .entry)) d span w ⌝ }
+{
+    let Checked::Passed(p) = w else {
+        return w;
+    };
+    let ValueRead::Value(count, first) = expect(s, d.layout, p, 41) else {
+        return malformed();
+    };
+    let mut a = Checked::Passed(first);
+    let mut left = count;
+    while 0 < left {
+        let Checked::Passed(_) = a else {
+            return a;
+        };
+        a = check_binder(s, d, span, a);
+        left = left - 1;
+    }
+    a
+}

@@ -1,0 +1,4 @@
+-- What the contracts of the crate cite.
+pub mod Write
+pub mod Names
+pub mod Reason

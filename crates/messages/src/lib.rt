@@ -1,0 +1,181 @@
+// The messages of document 01's refusals, written from the refusal and the tapes that spell its names.
+use crate::body::duplicate_definition;
+use crate::body::macro_in_macro;
+use crate::body::plain_identifier;
+use crate::body::reserved_name;
+use crate::body::undeclared_parameter;
+use crate::call::argument_count;
+use crate::call::budget_exceeded;
+use crate::call::cedar_in_condition;
+use crate::call::cedar_in_value;
+use crate::call::condition_as_value;
+use crate::call::unknown_macro;
+use crate::call::value_as_condition;
+use crate::parameter::binder_as_condition;
+use crate::parameter::not_a_condition;
+use crate::parameter::not_a_predicate;
+use crate::parameter::not_a_term;
+use crate::parameter::not_an_identifier;
+use crate::parameter::not_an_interval;
+use crate::parameter::unbound_parameter;
+use crate::stray::stray_condition;
+use crate::stray::stray_field;
+use crate::stray::stray_operand;
+use crate::stray::stray_slot;
+use crate::stray::stray_within;
+use buffer::zero_from;
+use tape::layout::Layout;
+use tape::layout::Place;
+use tape::node::Name;
+use tape::node::Sigil;
+use tape::node::Span;
+use tape::node::name_at;
+use tape::node::span_of;
+ghost use mathlib.Core.Path.{_≡_};
+ghost use lib.ListN.{length};
+ghost use Rattle.buffer.specs.Buffer.{messageIn, Written};
+ghost use Rattle.messages.specs.Reason.{numberOf, refusedAt, messageOf};
+ghost use Rattle.messages.specs.Write.{filled};
+
+mod body;
+mod call;
+pub mod names;
+mod parameter;
+mod pieces;
+mod stray;
+
+// Why an input is refused. A name is one of the definition's tape (a registry's too), or of the call's (a condition's too).
+pub enum Reason {
+    // 1, 2, 3 and 48 say nothing: the number
+    Silent(u32),
+    // 10, 11: the definition's name; the span of the one before
+    Reserved(Name),
+    Duplicate(Name, u64),
+    // 20: the name; where the parameters stand, and how many
+    Undeclared(Name, Place, u64),
+    // 21, 22
+    PlainIdentifier(Name),
+    MacroInMacro,
+    // 30 to 33: the call's name
+    UnknownMacro(Name),
+    CedarInCondition(Name),
+    CedarInValue(Name),
+    ValueAsCondition(Name),
+    ConditionAsValue(Name),
+    // 34: the definition's name; how many arguments it wants, and has
+    ArgumentCount(Name, u64, u64),
+    // 35: the limit
+    Budget(u32),
+    // 36 to 40: a name of the call's tape
+    StrayCondition(Sigil, Name),
+    StrayWithin(Name),
+    StraySlot(Sigil, Name),
+    StrayField(Sigil, Name),
+    StrayOperand(Sigil, Name),
+    // 41 to 46: the macro's name, and the parameter's
+    Unbound(Name, Name),
+    NotACondition(Name, Name),
+    BinderAsCondition(Name),
+    NotAnInterval(Name, Name),
+    NotATerm(Name, Name),
+    NotAnIdentifier(Name, Name),
+    // 47: the code of the condition that is refined
+    NotAPredicate(u8),
+}
+
+// A refusal: its span, and the reason, which says its number and its message.
+pub struct Refused {
+    pub span: Span,
+    pub reason: Reason,
+}
+
+pub fn refuse(span: u64, reason: Reason) -> Refused
+    ensures { λ r. ⌜ r ≡ refusedAt span reason ⌝ }
+{
+    Refused {
+        span: span_of(span),
+        reason,
+    }
+}
+
+// Document 01's number.
+pub fn number(reason: Reason) -> u32
+    ensures { λ r. ⌜ r ≡ numberOf reason ⌝ }
+{
+    match reason {
+        Reason::Silent(n) => n,
+        Reason::Reserved(_) => 10,
+        Reason::Duplicate(_, _) => 11,
+        Reason::Undeclared(_, _, _) => 20,
+        Reason::PlainIdentifier(_) => 21,
+        Reason::MacroInMacro => 22,
+        Reason::UnknownMacro(_) => 30,
+        Reason::CedarInCondition(_) => 31,
+        Reason::CedarInValue(_) => 31,
+        Reason::ValueAsCondition(_) => 32,
+        Reason::ConditionAsValue(_) => 33,
+        Reason::ArgumentCount(_, _, _) => 34,
+        Reason::Budget(_) => 35,
+        Reason::StrayCondition(_, _) => 36,
+        Reason::StrayWithin(_) => 37,
+        Reason::StraySlot(_, _) => 38,
+        Reason::StrayField(_, _) => 39,
+        Reason::StrayOperand(_, _) => 40,
+        Reason::Unbound(_, _) => 41,
+        Reason::NotACondition(_, _) => 42,
+        Reason::BinderAsCondition(_) => 43,
+        Reason::NotAnInterval(_, _) => 44,
+        Reason::NotATerm(_, _) => 45,
+        Reason::NotAnIdentifier(_, _) => 46,
+        Reason::NotAPredicate(_) => 47,
+    }
+}
+
+// Writes the message of a refusal and zeros behind it, as far as the buffer reaches, and answers the message's length.
+pub fn write(
+    definition: &[u8],
+    d: Layout,
+    call: &[u8],
+    c: Layout,
+    reason: Reason,
+    message: &mut [u8],
+) -> usize
+    ensures { λ r. ⌜ messageIn (now (message .exit)) r ≡ filled (length (now (message .entry))) (messageOf (now (definition .entry)) d (now (call .entry)) c reason) ⌝ }
+{
+    let n = said(definition, d, call, c, reason, message);
+    zero_from(message, n);
+    n
+}
+
+// The message alone: s is the definition's tape, laid out as d, and t the call's, laid out as c.
+fn said(s: &[u8], d: Layout, t: &[u8], c: Layout, reason: Reason, m: &mut [u8]) -> usize
+    ensures { λ r. ⌜ Written (now (m .entry)) (now (m .exit)) r (messageOf (now (s .entry)) d (now (t .entry)) c reason) ⌝ }
+{
+    match reason {
+        Reason::Silent(_) => 0,
+        Reason::Reserved(n) => reserved_name(m, name_at(s, d, n)),
+        Reason::Duplicate(n, span) => duplicate_definition(m, name_at(s, d, n), span),
+        Reason::Undeclared(n, params, count) => undeclared_parameter(m, s, d, n, params, count),
+        Reason::PlainIdentifier(n) => plain_identifier(m, name_at(s, d, n)),
+        Reason::MacroInMacro => macro_in_macro(m),
+        Reason::UnknownMacro(n) => unknown_macro(m, name_at(t, c, n)),
+        Reason::CedarInCondition(n) => cedar_in_condition(m, name_at(t, c, n)),
+        Reason::CedarInValue(n) => cedar_in_value(m, name_at(t, c, n)),
+        Reason::ValueAsCondition(n) => value_as_condition(m, name_at(t, c, n)),
+        Reason::ConditionAsValue(n) => condition_as_value(m, name_at(t, c, n)),
+        Reason::ArgumentCount(n, wanted, got) => argument_count(m, name_at(s, d, n), wanted, got),
+        Reason::Budget(limit) => budget_exceeded(m, limit),
+        Reason::StrayCondition(g, n) => stray_condition(m, g, name_at(t, c, n)),
+        Reason::StrayWithin(n) => stray_within(m, name_at(t, c, n)),
+        Reason::StraySlot(g, n) => stray_slot(m, g, name_at(t, c, n)),
+        Reason::StrayField(g, n) => stray_field(m, g, name_at(t, c, n)),
+        Reason::StrayOperand(g, n) => stray_operand(m, g, name_at(t, c, n)),
+        Reason::Unbound(f, n) => unbound_parameter(m, name_at(s, d, f), name_at(s, d, n)),
+        Reason::NotACondition(f, n) => not_a_condition(m, name_at(s, d, f), name_at(s, d, n)),
+        Reason::BinderAsCondition(n) => binder_as_condition(m, name_at(s, d, n)),
+        Reason::NotAnInterval(f, n) => not_an_interval(m, name_at(s, d, f), name_at(s, d, n)),
+        Reason::NotATerm(f, n) => not_a_term(m, name_at(s, d, f), name_at(s, d, n)),
+        Reason::NotAnIdentifier(f, n) => not_an_identifier(m, name_at(s, d, f), name_at(s, d, n)),
+        Reason::NotAPredicate(code) => not_a_predicate(m, code),
+    }
+}

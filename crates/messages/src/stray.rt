@@ -1,0 +1,67 @@
+// Numbers 36 to 40, of a stray sigil.
+use crate::pieces::around;
+use tape::node::Sigil;
+ghost use Rattle.definition.specs.Messages.{strayCondition, strayWithin, straySlot, strayField, strayOperand};
+ghost use Rattle.buffer.specs.Buffer.{messageIn, Written};
+ghost use Rattle.messages.specs.Write.{Writes};
+ghost use Rattle.messages.specs.Reason.{sigilOf, strayPieces};
+
+// The sigil with its name, and where it stands.
+fn stray(message: &mut [u8], sigil: Sigil, name: &[u8], place: &[u8]) -> usize
+    ensures { λ r. ⌜ Writes (strayPieces (sigilOf sigil) (now (name .entry)) (now (place .entry))) (messageIn (now (message .entry)) 0) (messageIn (now (message .exit)) r) ⌝ }
+{
+    match sigil {
+        Sigil::Param => around(message, b"stray macro parameter reference `?", name, place),
+        Sigil::Binder => around(message, b"stray macro binder reference `$", name, place),
+    }
+}
+
+pub fn stray_condition(message: &mut [u8], sigil: Sigil, name: &[u8]) -> usize
+    ensures { λ r. ⌜ Written (now (message .entry)) (now (message .exit)) r (strayCondition (sigilOf sigil) (now (name .entry))) ⌝ }
+{
+    stray(message, sigil, name, b"` outside a macro body")
+}
+
+pub fn stray_within(message: &mut [u8], name: &[u8]) -> usize
+    ensures { λ r. ⌜ Written (now (message .entry)) (now (message .exit)) r (strayWithin (now (name .entry))) ⌝ }
+{
+    stray(
+        message,
+        Sigil::Param,
+        name,
+        b"` in a `within` position outside a macro body",
+    )
+}
+
+pub fn stray_slot(message: &mut [u8], sigil: Sigil, name: &[u8]) -> usize
+    ensures { λ r. ⌜ Written (now (message .entry)) (now (message .exit)) r (straySlot (sigilOf sigil) (now (name .entry))) ⌝ }
+{
+    stray(
+        message,
+        sigil,
+        name,
+        b"` in a binder position outside a macro body",
+    )
+}
+
+pub fn stray_field(message: &mut [u8], sigil: Sigil, name: &[u8]) -> usize
+    ensures { λ r. ⌜ Written (now (message .entry)) (now (message .exit)) r (strayField (sigilOf sigil) (now (name .entry))) ⌝ }
+{
+    stray(
+        message,
+        sigil,
+        name,
+        b"` in a predicate-argument position outside a macro body",
+    )
+}
+
+pub fn stray_operand(message: &mut [u8], sigil: Sigil, name: &[u8]) -> usize
+    ensures { λ r. ⌜ Written (now (message .entry)) (now (message .exit)) r (strayOperand (sigilOf sigil) (now (name .entry))) ⌝ }
+{
+    stray(
+        message,
+        sigil,
+        name,
+        b"` in a comparison-operand position outside a macro body",
+    )
+}

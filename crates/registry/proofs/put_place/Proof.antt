@@ -1,0 +1,24 @@
+-- `registry::put_place` meets its contract.
+-- Assumes nothing.
+use native.Mathlib.Omega.{arith}
+use native.Mathlib.Numerals.{add-one}
+use mathlib.Core.Path.{refl}
+use lib.ListN.{length-set}
+use borrow.Author.Needs.{needs}
+use Rattle.registry.proofs.put_place.Statement.{statement}
+use Rattle.registry.proofs.put_place.Tie as tie
+
+returns : tie.Need-returns
+returns c = rw (add-one (c .args .k)) refl
+
+pub put-place-spec : {M : Type 1} → statement M
+put-place-spec =
+    tie.close
+    (tie.spec
+    (λ c. search needs)
+    (λ c. search needs)
+    (λ c. search needs)
+    (λ c. search needs)
+    (λ c. simp length-set (omega arith))
+    (λ c. search needs)
+    returns)
