@@ -1,0 +1,65 @@
+//! The archive's four functions, if one was linked (see build.rs).
+
+use crate::compare::Machine;
+
+#[cfg(not(archive))]
+pub fn linked() -> Option<Box<dyn Machine>> {
+    None
+}
+
+#[cfg(archive)]
+pub fn linked() -> Option<Box<dyn Machine>> {
+    Some(Box::new(functions::Archive))
+}
+
+#[cfg(archive)]
+mod functions {
+    use crate::case::{Case, Operation};
+    use crate::compare::{Lent, Machine};
+
+    // In C a slice is two parameters, its pointer and its length; the answer is a `&mut [u64; 5]`, the pointer alone.
+    #[rustfmt::skip]
+    unsafe extern "C" {
+        fn neukolja_check(
+            definition: *const u8, definition_len: usize, message: *mut u8, message_len: usize, answer: *mut [u64; 5],
+        );
+        fn neukolja_registry(
+            registry: *const u8, registry_len: usize, message: *mut u8, message_len: usize, answer: *mut [u64; 5],
+        );
+        fn neukolja_substitute(
+            definition: *const u8, definition_len: usize, call: *const u8, call_len: usize, limit: u32,
+            result: *mut u8, result_len: usize, work: *mut u8, work_len: usize, message: *mut u8, message_len: usize,
+            answer: *mut [u64; 5],
+        );
+        fn neukolja_expand(
+            registry: *const u8, registry_len: usize, condition: *const u8, condition_len: usize, limit: u32,
+            result: *mut u8, result_len: usize, work: *mut u8, work_len: usize, message: *mut u8, message_len: usize,
+            answer: *mut [u64; 5],
+        );
+    }
+
+    pub struct Archive;
+
+    impl Machine for Archive {
+        #[rustfmt::skip]
+        fn run(&mut self, case: &Case, lent: Lent) {
+            let ((a, b), limit) = ((&case.first, &case.second), case.limit);
+            let Lent { result: r, work: w, message: m, answer } = lent;
+            // SAFETY: every pointer comes with its length from a slice that outlives the call, and no two overlap.
+            unsafe {
+                match case.operation {
+                    Operation::Check => neukolja_check(a.as_ptr(), a.len(), m.as_mut_ptr(), m.len(), answer),
+                    Operation::Registry => neukolja_registry(a.as_ptr(), a.len(), m.as_mut_ptr(), m.len(), answer),
+                    Operation::Substitute => neukolja_substitute(
+                        a.as_ptr(), a.len(), b.as_ptr(), b.len(), limit,
+                        r.as_mut_ptr(), r.len(), w.as_mut_ptr(), w.len(), m.as_mut_ptr(), m.len(), answer,
+                    ),
+                    Operation::Expand => neukolja_expand(
+                        a.as_ptr(), a.len(), b.as_ptr(), b.len(), limit,
+                        r.as_mut_ptr(), r.len(), w.as_mut_ptr(), w.len(), m.as_mut_ptr(), m.len(), answer,
+                    ),
+                }
+            }
+        }
+    }
+}

@@ -1,0 +1,103 @@
+//! Document 01's fourteen bench cases, and its `e(1, 2)`.
+
+use crate::case::{Case, Operation};
+use crate::tape::{Node, encode, span};
+
+fn text(t: &str) -> Node {
+    Node::with_text(40, t.as_bytes())
+}
+
+fn list(width: usize, items: Vec<Node>) -> Node {
+    Node::counted(41, width, items)
+}
+
+fn fields(fields: Vec<(&str, Node)>) -> Node {
+    list(2, fields.into_iter().flat_map(|(name, term)| [text(name), term]).collect())
+}
+
+/// `P{…}`: no namespace, action P, empty kind.
+fn p(of: Vec<(&str, Node)>) -> Node {
+    Node::new(7, 0, vec![Node::new(42, 0, vec![]), list(1, vec![]), text("P"), text(""), fields(of)])
+}
+
+fn integer(n: u64) -> Node {
+    Node::new(21, n, vec![])
+}
+
+fn parameter(name: &str) -> Node {
+    Node::with_text(32, name.as_bytes())
+}
+
+fn sigil(code: u8, name: &str) -> Node {
+    Node::new(12, 0, vec![Node::with_text(code, name.as_bytes())])
+}
+
+fn array(items: Vec<Node>) -> Node {
+    Node::counted(29, 1, items)
+}
+
+fn definition(name: &str, parameters: &[&str], body: Node) -> Node {
+    let parameters = parameters.iter().flat_map(|p| [Node::new(42, 0, vec![]), text(p)]).collect();
+    Node::new(60, 0, vec![text(name), list(2, parameters), Node::new(62, 0, vec![body])])
+}
+
+/// A bare call with span 7..9.
+fn call(name: &str, arguments: Vec<Node>) -> Node {
+    Node::new(11, 0, vec![Node::new(54, span(7, 9), vec![text(name), list(1, arguments)])])
+}
+
+fn term(t: Node) -> Node {
+    Node::new(56, 0, vec![t])
+}
+
+fn condition(c: Node) -> Node {
+    Node::new(55, 0, vec![c])
+}
+
+fn definitions() -> Node {
+    let slot = || Node::with_text(44, b"v");
+    let refined = vec![Node::new(42, span(3, 4), vec![]), sigil(58, "s"), fields(vec![("h", integer(1))])];
+    let exists = vec![slot(), Node::new(46, 0, vec![]), Node::new(10, 0, vec![slot()])];
+    let binder = Node::with_text(33, b"t");
+    list(
+        1,
+        vec![
+            definition("m", &["x"], p(vec![("f", parameter("x")), ("g", binder)])),
+            definition("k", &["s"], Node::new(13, 0, refined)),
+            definition("w", &["d"], Node::new(4, 0, vec![Node::with_text(52, b"d"), p(vec![])])),
+            definition("b", &["v"], Node::new(9, 0, exists)),
+            definition("z", &[], sigil(59, "b")),
+            definition("e", &["x", "x"], p(vec![("f", parameter("x"))])),
+        ],
+    )
+}
+
+/// The inputs in the order of document 01's table, `e(1, 2)` behind them.
+pub fn cases() -> Vec<Case> {
+    let hour = || Node::new(57, 0, vec![Node::new(50, 1, vec![])]);
+    let p2 = || p(vec![("a", integer(2))]);
+    let sum = Node::new(31, 0, vec![integer(1), parameter("z")]);
+    let equal = vec![Node::new(53, 4, vec![]), array(vec![parameter("z")]), integer(1)];
+    let inputs = vec![
+        (4, call("m", vec![term(integer(5))])),
+        (100, call("m", vec![])),
+        (3, call("m", vec![term(integer(5))])),
+        (2, call("m", vec![term(integer(5))])),
+        (100, call("m", vec![term(parameter("y"))])),
+        (100, call("k", vec![condition(p2())])),
+        (100, call("k", vec![condition(Node::new(3, 0, vec![p2()]))])),
+        (100, p(vec![("f", array(vec![parameter("z")]))])),
+        (100, p(vec![("f", sum)])),
+        (100, Node::new(8, 0, equal)),
+        (100, call("w", vec![hour()])),
+        (100, call("b", vec![term(Node::with_text(27, b"q"))])),
+        (100, call("b", vec![term(integer(5))])),
+        (100, call("z", vec![])),
+        (100, call("e", vec![term(integer(1)), term(integer(2))])),
+    ];
+    let registry = encode(&definitions());
+    inputs
+        .into_iter()
+        .map(|(limit, condition)| Case::on_two_tapes(Operation::Expand, limit, registry.clone(), encode(&condition)))
+        .collect()
+}

@@ -1,0 +1,190 @@
+//! The three that are compared: the model, upstream, and a machine (the archive, or the model behind the same calls).
+
+use crate::case::{Answer, Case, Operation};
+use crate::model::{self, Notes, TooLarge};
+use crate::tape::{self, LARGEST, Node};
+use crate::upstream::{self, End, Reach, Run};
+
+/// Who stands behind an expected answer.
+#[derive(Clone, Copy, Debug, PartialEq, Eq, PartialOrd, Ord)]
+pub enum Witness {
+    /// A tape or a buffer was refused: 1, 2 and 3 are document 01's alone.
+    ModelAlone,
+    /// Upstream gave the same number, span, message, charge and tree. (For 48 upstream has no span.)
+    Upstream,
+    /// 3 for a whole result: upstream made the same tree with the same charge, and the tree is over a figure.
+    UpstreamMadeIt,
+    /// 3 for a 54 with its arguments: upstream, halted before the next charge, stood at the same call with the same
+    /// charge, about to charge the same body.
+    UpstreamHalted,
+    /// 3 for the outcome of a call: upstream made the same outcome of that call, and its walk made the same charges.
+    UpstreamSubstituted,
+}
+
+pub const WITNESSES: [(Witness, &str); 5] = [
+    (Witness::Upstream, "upstream gave the same answer"),
+    (Witness::UpstreamMadeIt, "3 of a whole result, which upstream made"),
+    (Witness::UpstreamHalted, "3 of a call, where upstream was halted"),
+    (Witness::UpstreamSubstituted, "3 of a call's outcome, which upstream made"),
+    (Witness::ModelAlone, "1, 2 or 3 of a tape, decided by the model alone"),
+];
+
+/// The answer that a case must have: the model's, after upstream was heard.
+pub fn expected(case: &Case) -> Result<(Answer, Notes, Witness), String> {
+    let (answer, notes) = model::answer(case);
+    let witness = hear_upstream(case, &answer, &notes)?;
+    Ok((answer, notes, witness))
+}
+
+fn hear_upstream(case: &Case, answer: &Answer, notes: &Notes) -> Result<Witness, String> {
+    let Some((first, second)) = &notes.trees else {
+        return Ok(Witness::ModelAlone);
+    };
+    same("the first tape read and written", &tape::encode(first), &case.first)?;
+    if let Some(second) = second {
+        same("the second tape read and written", &tape::encode(second), &case.second)?;
+    }
+    let run = |reach: Reach| match (case.operation, second) {
+        (Operation::Check, _) => upstream::check(first),
+        (Operation::Registry, _) => upstream::registry(first),
+        (Operation::Substitute, Some(call)) => upstream::substitute(first, call, reach),
+        (Operation::Expand, Some(condition)) => upstream::expand(first, condition, reach),
+        _ => unreachable!("two tapes were read"),
+    };
+    let whole = Reach::limit(case.limit as usize);
+    match &notes.too_large {
+        None => agrees(&run(whole), answer, notes).map(|()| Witness::Upstream),
+        Some(TooLarge::Whole { result }) => made(&run(whole), answer, result).map(|()| Witness::UpstreamMadeIt),
+        Some(TooLarge::Call { body }) => {
+            let halted = run(Reach { charges: notes.charges, ..whole });
+            halted_there(&halted, *body, answer, notes).map(|()| Witness::UpstreamHalted)
+        }
+        Some(TooLarge::Outcome { definition, call, outcome, charged_before }) => {
+            let left = u64::from(case.limit) - charged_before;
+            let mut substituted = upstream::substitute(definition, call, Reach::limit(left as usize));
+            substituted.charged += charged_before;
+            made(&substituted, answer, outcome)?;
+            let halted = run(Reach { charges: notes.charges, ..whole });
+            same_charges(&halted, answer, notes).map(|()| Witness::UpstreamSubstituted)
+        }
+    }
+}
+
+/// Upstream made the tree that is too large, with the same charge.
+fn made(run: &Run, answer: &Answer, tree: &Node) -> Result<(), String> {
+    same("the tree that is too large", &run.end, &End::Tree(tree.clone()))?;
+    same("what upstream charged", &run.charged, &answer.charged)?;
+    same("that it is too large", &tape::measure(tree).over(&LARGEST).is_some(), &true)
+}
+
+/// Upstream, halted after the same charges, stood at the call that is too large, about to charge its body.
+fn halted_there(run: &Run, body: u64, answer: &Answer, notes: &Notes) -> Result<(), String> {
+    let End::Refused { number: 35, span, .. } = run.end else {
+        return Err(format!("upstream did not come to the call that is too large: {:?}", run.end));
+    };
+    same("the call that is too large", &(tape::span_start(span), tape::span_end(span)), &(answer.start, answer.end))?;
+    same("the charge at which upstream was halted", &run.halted_at, &Some(body))?;
+    same_charges(run, answer, notes)
+}
+
+fn same_charges(run: &Run, answer: &Answer, notes: &Notes) -> Result<(), String> {
+    same("what upstream charged", &run.charged, &answer.charged)?;
+    same("how often upstream charged", &run.charges, &notes.charges)
+}
+
+fn agrees(run: &Run, answer: &Answer, notes: &Notes) -> Result<(), String> {
+    same_charges(run, answer, notes)?;
+    match &run.end {
+        End::Passed => same("the number", &0, &answer.number),
+        End::Tree(tree) => {
+            same("the number", &0, &answer.number)?;
+            same("the tree", &Some(tree), &notes.result.as_ref())
+        }
+        End::Refused { number, span, message } => {
+            same("the number", number, &answer.number)?;
+            same("the span", &(tape::span_start(*span), tape::span_end(*span)), &(answer.start, answer.end))?;
+            same("the message", &message.as_bytes(), &answer.message.as_slice())
+        }
+        End::CallInBody => same("the number", &48, &answer.number),
+        End::Unknown(what) => Err(format!("upstream ended without a number: {what}")),
+    }
+}
+
+fn same<T: PartialEq + std::fmt::Debug>(what: &str, upstream: &T, model: &T) -> Result<(), String> {
+    if upstream == model {
+        return Ok(());
+    }
+    Err(format!("{what} differs: upstream {upstream:?}, model {model:?}"))
+}
+
+// ------------------------------------------------------------------ a machine against the expected answer
+
+/// The buffers that are lent to an operation.
+pub struct Lent<'a> {
+    pub result: &'a mut [u8],
+    pub work: &'a mut [u8],
+    pub message: &'a mut [u8],
+    pub answer: &'a mut [u64; 5],
+}
+
+pub trait Machine {
+    fn run(&mut self, case: &Case, lent: Lent);
+}
+
+/// A byte around and in every buffer before a run. Not zero, so that what is not written is seen.
+const FILL: u8 = 0xA5;
+/// So many bytes before and behind each buffer must not change. Odd, so that no buffer lies as a number would.
+const MARGIN: usize = 33;
+
+/// A buffer with a margin on both sides.
+struct Framed {
+    bytes: Vec<u8>,
+}
+
+impl Framed {
+    fn new(size: usize) -> Framed {
+        Framed { bytes: vec![FILL; size + 2 * MARGIN] }
+    }
+
+    fn inner(&mut self) -> &mut [u8] {
+        let end = self.bytes.len() - MARGIN;
+        &mut self.bytes[MARGIN..end]
+    }
+
+    /// The buffer holds `head` and then zeros, and the margins are as they were.
+    fn holds(&mut self, what: &str, head: &[u8]) -> Result<(), String> {
+        let end = self.bytes.len() - MARGIN;
+        if self.bytes[..MARGIN].iter().chain(&self.bytes[end..]).any(|b| *b != FILL) {
+            return Err(format!("{what}: written outside the buffer"));
+        }
+        let inner = self.inner();
+        if inner.len() < head.len() {
+            return Err(format!("{what}: the buffer is shorter than what it should hold"));
+        }
+        let (start, rest) = inner.split_at(head.len());
+        if start == head && rest.iter().all(|b| *b == 0) {
+            return Ok(());
+        }
+        let wanted = |i: usize| head.get(i).copied().unwrap_or(0);
+        let i = (0..inner.len()).find(|i| inner[*i] != wanted(*i)).expect("they differ");
+        Err(format!("{what}: byte {i} of {} is {:02X}, expected {:02X}", inner.len(), inner[i], wanted(i)))
+    }
+}
+
+/// Runs a machine on a case and compares the five numbers and every byte of the three buffers.
+pub fn judge(machine: &mut dyn Machine, case: &Case, answer: &Answer) -> Result<(), String> {
+    let (mut result, mut work, mut message) =
+        (Framed::new(case.result), Framed::new(case.work), Framed::new(case.message));
+    let mut numbers = [u64::MAX; 5];
+    machine
+        .run(case, Lent { result: result.inner(), work: work.inner(), message: message.inner(), answer: &mut numbers });
+    if numbers != answer.numbers() {
+        return Err(format!(
+            "number, start, end, message length, charged are {numbers:?}, expected {:?}",
+            answer.numbers()
+        ));
+    }
+    result.holds("result", &answer.result)?;
+    work.holds("work", &[])?;
+    message.holds("message", &answer.message)
+}

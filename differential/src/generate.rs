@@ -1,0 +1,397 @@
+//! Cases from a seed.
+
+use crate::brim::{self, FIGURES, Figure};
+use crate::case::{Case, LEAST_MESSAGE, LEAST_RESULT, LEAST_WORK, OPERATIONS, Operation};
+use crate::damage::damage;
+use crate::model::{self, Walk};
+use crate::random::Random;
+use crate::tape::{self, LARGEST_CALLS, LARGEST_PARAMETERS, LARGEST_TEXT, Node, UNBOUNDED};
+use crate::trees::{DEPTH, Ground, Macro, Style, Trees};
+
+/// The case with this index in the campaign of this seed.
+pub fn case(seed: u64, index: u64) -> Case {
+    let random = &mut Random::of_case(seed, index);
+    let operation = OPERATIONS[random.weighted(&[16, 9, 35, 40])];
+    let input = match random.weighted(&[79, 11, 10]) {
+        0 => input(random, operation),
+        1 => at_a_limit(random, operation),
+        _ => result_at_a_limit(random, operation),
+    };
+    let mut case = on_tapes(random, operation, &input);
+    if random.chance(13) {
+        spoil(random, &mut case);
+    }
+    vary_buffers(random, &mut case);
+    case
+}
+
+/// The trees of a case: definition or registry, and call or condition.
+#[derive(Clone)]
+struct Input {
+    first: Node,
+    second: Option<Node>,
+}
+
+fn style(random: &mut Random) -> Style {
+    Style {
+        stray: *random.pick(&[0, 0, 0, 1, 3, 10]),
+        plain: *random.pick(&[0, 0, 10, 50]),
+        wrong: *random.pick(&[0, 0, 2, 6, 20]),
+        calls: random.weighted(&[0, 20, 40, 30, 8, 2]),
+    }
+}
+
+fn trees<'a>(random: &'a mut Random) -> Trees<'a> {
+    let style = style(random);
+    let fuel = fuel(random);
+    Trees { random, style, parameters: vec![], macros: vec![], fuel }
+}
+
+/// About how many nodes a tree is to have.
+fn fuel(random: &mut Random) -> usize {
+    if random.chance(25) { random.within(40, 250) } else { random.size(250) }
+}
+
+// ------------------------------------------------------------------ random inputs
+
+fn input(random: &mut Random, operation: Operation) -> Input {
+    let g = &mut trees(random);
+    match operation {
+        Operation::Check => Input { first: a_definition(g).0, second: None },
+        Operation::Registry => Input { first: a_registry(g), second: None },
+        Operation::Substitute => {
+            let (first, known) = a_definition(g);
+            g.fuel = fuel(g.random);
+            // Substitution does not look into its arguments, so anything may stand there.
+            let ground = if g.random.chance(50) { Ground::Hidden } else { Ground::Entered };
+            let called = if g.random.chance(85) { known } else { Macro { name: g.macro_name(), ..known } };
+            let second = Some(g.call_of(&called, ground, DEPTH));
+            Input { first, second }
+        }
+        Operation::Expand => {
+            let first = a_registry(g);
+            g.fuel = fuel(g.random);
+            Input { first, second: Some(g.condition(Ground::Entered, DEPTH)) }
+        }
+    }
+}
+
+fn a_definition(g: &mut Trees) -> (Node, Macro) {
+    let name = g.macro_name();
+    g.definition(name)
+}
+
+fn a_registry(g: &mut Trees) -> Node {
+    let count = match g.random.weighted(&[90, 10]) {
+        0 => g.random.weighted(&[4, 20, 24, 20, 16, 16]),
+        _ => g.random.within(6, 20),
+    };
+    g.registry(count)
+}
+
+// ------------------------------------------------------------------ tapes at a limit
+
+fn at_a_limit(random: &mut Random, operation: Operation) -> Input {
+    let mut input = input(random, operation);
+    let first = input.second.is_none() || random.chance(50);
+    let tree = if first { &mut input.first } else { input.second.as_mut().expect("there is one") };
+    match random.weighted(&[50, 20, 10, 20]) {
+        0 => grow_a_tape(random, tree),
+        1 => brim::stretch_a_text(random, tree),
+        2 => many_parameters(random, &mut input),
+        _ => many_calls(random, &mut input, operation),
+    }
+    input
+}
+
+/// A condition grows as a whole, a definition in its body, a registry in a definition's, a call in an argument.
+fn grow_a_tape(random: &mut Random, tree: &mut Node) {
+    let figure = *random.pick(&FIGURES);
+    let whole = tape::measure(tree);
+    if matches!(tree.code, 1..=13) {
+        if let Some(more) = brim::missing(random, figure, &whole)
+            && let Some(grown) = brim::grow_condition(tree.clone(), figure, more)
+        {
+            *tree = grown;
+        }
+        return;
+    }
+    let parts = match tree.code {
+        60 => std::slice::from_mut(tree),
+        54 => &mut tree.children[1].children[..],
+        _ => &mut tree.children[..],
+    };
+    if parts.is_empty() {
+        return;
+    }
+    let i = random.below(parts.len());
+    // Entries and text are the whole's, but nesting is that of the part which grows.
+    let now = if figure == Figure::Nesting { tape::measure(&parts[i]) } else { whole };
+    if let Some(more) = brim::missing(random, figure, &now) {
+        let inside = if parts[i].code == 60 { &mut parts[i].children[2] } else { &mut parts[i] };
+        brim::grow_inside(inside, figure, more);
+    }
+}
+
+fn many_parameters(random: &mut Random, input: &mut Input) {
+    let definition = match input.first.code {
+        60 => &mut input.first,
+        _ if input.first.children.is_empty() => return,
+        _ => {
+            let i = random.below(input.first.children.len());
+            &mut input.first.children[i]
+        }
+    };
+    let count = LARGEST_PARAMETERS + random.below(3) - 1;
+    let list = &mut definition.children[1];
+    let long = random.chance(50);
+    while list.children.len() < 2 * count {
+        let name = vec![b'a' + random.below(26) as u8; if long { LARGEST_TEXT } else { 2 }];
+        list.children.extend([Node::new(42, 0, vec![]), Node::with_text(40, &name)]);
+    }
+    list.value = (list.children.len() / 2) as u64;
+    let parameters = list.value as usize;
+    if random.chance(30) {
+        // An undeclared name, for the longest message that there is.
+        let undeclared = Node::with_text(58, &[b'_'; LARGEST_TEXT]);
+        definition.children[2] = Node::new(62, 0, vec![Node::new(12, 0, vec![undeclared])]);
+    }
+    if let Some(Node { code: 54, children, .. }) = &mut input.second {
+        let list = &mut children[1];
+        let argument = Node::new(56, 0, vec![Node::new(28, 0, vec![])]);
+        list.children.resize(parameters.max(list.children.len()), argument);
+        list.value = list.children.len() as u64;
+    }
+}
+
+/// Calls inside one another, or one call with more arguments than a definition may have parameters.
+fn many_calls(random: &mut Random, input: &mut Input, operation: Operation) {
+    let name = match input.first.children.first() {
+        Some(Node { code: 60, children, .. }) if random.chance(50) => children[0].text.clone(),
+        _ => vec![*random.pick(b"mkwbz")],
+    };
+    let calls = if random.chance(25) {
+        brim::wide_call(&name, LARGEST_PARAMETERS + random.below(4) - 1)
+    } else {
+        let depth = LARGEST_CALLS + random.below(3) - 1;
+        brim::nested_calls(random, &name, depth)
+    };
+    let condition = Node::new(11, tape::span(1, 2), vec![calls.clone()]);
+    match operation {
+        Operation::Substitute => input.second = Some(calls),
+        Operation::Expand => input.second = Some(condition),
+        // A body with calls is accepted, and refused by its check.
+        Operation::Check => input.first.children[2] = Node::new(62, 0, vec![condition]),
+        Operation::Registry => {
+            if let Some(definition) = input.first.children.first_mut() {
+                definition.children[2] = Node::new(62, 0, vec![condition]);
+            }
+        }
+    }
+}
+
+// ------------------------------------------------------------------ results at a limit
+
+/// A substitution whose result, or an expansion of which a 54, an outcome or the whole, comes to rest around a limit.
+fn result_at_a_limit(random: &mut Random, operation: Operation) -> Input {
+    let figure = *random.pick(&FIGURES);
+    match operation {
+        Operation::Check | Operation::Registry => at_a_limit(random, operation),
+        Operation::Substitute => {
+            let mut input = multiplying(random, figure);
+            let call = input.second.clone().expect("a call");
+            let mut walk = Walk::new(u64::from(u32::MAX), UNBOUNDED);
+            if let Ok(result) = walk.substitute_whole(&input.first, &call)
+                && let Some(more) = brim::missing(random, figure, &tape::measure(&result))
+            {
+                brim::grow_inside(&mut input.first.children[2], figure, more);
+            }
+            if random.chance(25) {
+                brim::refuse_behind(&mut input.first.children[2]);
+            }
+            input
+        }
+        Operation::Expand => expansion_at_a_limit(random, figure),
+    }
+}
+
+/// A definition that pastes its argument several times, and a call with a large argument.
+fn multiplying(random: &mut Random, figure: Figure) -> Input {
+    let g = &mut Trees {
+        style: Style { stray: 0, plain: 20, wrong: 0, calls: 3 },
+        parameters: vec![],
+        macros: vec![],
+        fuel: 10,
+        random,
+    };
+    let as_term = g.random.chance(50);
+    let (name, depth) = (g.macro_name(), g.random.within(5, DEPTH));
+    g.fuel = if figure == Figure::Entries { g.random.size(200) } else { g.random.size(30) };
+    let argument = if as_term {
+        Node::new(56, 0, vec![g.operand(Ground::Hidden, depth)])
+    } else {
+        Node::new(55, 0, vec![g.condition(Ground::Hidden, depth)])
+    };
+    let pastes = g.random.size(12);
+    let body = pasting(g, as_term, pastes);
+    let parameters = Node::counted(41, 2, vec![Node::new(42, 0, vec![]), Node::with_text(40, b"x")]);
+    let first = Node::new(60, g.span(), vec![Node::with_text(40, &name), parameters, body]);
+    let arguments = Node::counted(41, 1, vec![argument]);
+    Input { first, second: Some(Node::new(54, g.span(), vec![Node::with_text(40, &name), arguments])) }
+}
+
+/// A body with so many `?x`, for conditions or for terms.
+fn pasting(g: &mut Trees, as_term: bool, pastes: usize) -> Node {
+    if as_term {
+        let items: Vec<Node> = (0..pastes).map(|_| Node::with_text(32, b"x")).collect();
+        let array = Node::counted(29, 1, items);
+        if g.random.chance(50) {
+            return Node::new(63, 0, vec![array]);
+        }
+        let comparison = vec![Node::new(53, 4, vec![]), array, Node::with_text(33, b"t")];
+        return Node::new(62, 0, vec![Node::new(8, g.span(), comparison)]);
+    }
+    let mut sigil = || Node::new(12, g.span(), vec![Node::with_text(58, b"x")]);
+    let first = sigil();
+    let body = (1..pastes).fold(first, |c, _| Node::new(1, 0, vec![c, sigil()]));
+    Node::new(62, 0, vec![body])
+}
+
+/// The condition is one call, so that the last measures taken are those of its 54, its outcome and the whole. One of
+/// them is brought to a limit.
+fn expansion_at_a_limit(random: &mut Random, figure: Figure) -> Input {
+    let (mut registry, call) = outer_and_inner(random, figure);
+    let is_value = registry.children[0].children[2].code == 63;
+    let mut condition = as_condition(call, is_value);
+    let mut walk = Walk::new(u64::from(u32::MAX), UNBOUNDED);
+    if walk.expand_whole(&registry, &condition).is_ok() {
+        let [.., (_, of_call), (_, of_outcome), (_, of_whole)] = walk.measured[..] else {
+            unreachable!("a call was expanded")
+        };
+        let which = random.below(3);
+        let now = [of_call, of_outcome, of_whole][which];
+        if let Some(more) = brim::missing(random, figure, &now) {
+            match which {
+                0 => drop(brim::grow_inside(unused_argument(&mut condition, is_value), figure, more)),
+                1 => drop(brim::grow_inside(&mut registry.children[0].children[2], figure, more)),
+                _ => condition = brim::grow_condition(condition.clone(), figure, more).unwrap_or(condition),
+            }
+        }
+    }
+    let mut around = Node::new(55, 0, vec![condition]);
+    if random.chance(25) {
+        brim::refuse_behind(&mut around);
+    }
+    Input { first: registry, second: around.children.pop() }
+}
+
+/// A registry of two macros, and a call of the first. The second is called in the argument of a parameter that no place
+/// uses: what it adds to the 54 is not on the tape, and not in the outcome.
+fn outer_and_inner(random: &mut Random, figure: Figure) -> (Node, Node) {
+    let Input { first: mut outer, second } = multiplying(random, figure);
+    let mut call = second.expect("a call");
+    let inner = inner_macro(random, figure);
+    outer.children[0] = Node::with_text(40, b"outer");
+    call.children[0] = Node::with_text(40, b"outer");
+    let parameters = &mut outer.children[1];
+    parameters.children.extend([Node::new(42, 0, vec![]), Node::with_text(40, b"unused")]);
+    parameters.value += 1;
+    let no_arguments = Node::counted(41, 1, vec![]);
+    let inner_call = Node::new(54, tape::span(20, 22), vec![inner.children[0].clone(), no_arguments]);
+    let argument = match inner.children[2].code {
+        63 => Node::new(56, 0, vec![Node::new(31, 0, vec![as_value(inner_call), brim::array(2, 0)])]),
+        _ => Node::new(55, 0, vec![Node::new(3, 0, vec![Node::new(11, 0, vec![inner_call])])]),
+    };
+    call.children[1].children.push(argument);
+    call.children[1].value += 1;
+    (Node::counted(41, 1, vec![outer, inner]), call)
+}
+
+fn inner_macro(random: &mut Random, figure: Figure) -> Node {
+    let text = vec![b'i'; if figure == Figure::Text { random.size(250) } else { 1 }];
+    let body = if random.chance(50) {
+        let array = Node::counted(29, 1, vec![Node::with_text(23, &text); random.size(10)]);
+        Node::new(63, 0, vec![array])
+    } else {
+        let tp = Node::new(10, tape::span(5, 6), vec![Node::with_text(45, b"t")]);
+        Node::new(62, 0, vec![(0..random.below(30)).fold(tp, |c, _| Node::new(3, 0, vec![c]))])
+    };
+    Node::new(60, 0, vec![Node::with_text(40, b"inner"), Node::counted(41, 2, vec![]), body])
+}
+
+fn as_value(call: Node) -> Node {
+    Node::new(30, 0, vec![Node::new(36, tape::span(1, 2), vec![call])])
+}
+
+fn as_condition(call: Node, is_value: bool) -> Node {
+    match is_value {
+        true => Node::new(8, 0, vec![Node::new(53, 0, vec![]), as_value(call), Node::new(28, 0, vec![])]),
+        false => Node::new(11, tape::span(1, 2), vec![call]),
+    }
+}
+
+fn unused_argument(condition: &mut Node, is_value: bool) -> &mut Node {
+    let call = match is_value {
+        true => &mut condition.children[1].children[0].children[0],
+        false => &mut condition.children[0],
+    };
+    &mut call.children[1].children[1]
+}
+
+// ------------------------------------------------------------------ from trees to a case
+
+fn on_tapes(random: &mut Random, operation: Operation, input: &Input) -> Case {
+    let first = tape::encode(&input.first);
+    let Some(second) = &input.second else { return Case::on_one_tape(operation, first) };
+    let mut case = Case::on_two_tapes(operation, u32::MAX, first, tape::encode(second));
+    if random.chance(55) {
+        case.limit = limit(random, model::answer(&case).0.charged as usize) as u32;
+    }
+    case
+}
+
+/// A limit at or below what is charged without one, or any.
+fn limit(random: &mut Random, charged: usize) -> usize {
+    match random.weighted(&[30, 25, 25, 10, 10]) {
+        0 => charged,
+        1 => charged.saturating_sub(1),
+        2 => random.below(charged + 1),
+        3 => random.below(20),
+        _ => random.number() as usize,
+    }
+}
+
+/// A damaged tape, or another than is wanted.
+fn spoil(random: &mut Random, case: &mut Case) {
+    let other = random.chance(50) && case.operation.makes_a_tree();
+    match random.weighted(&[85, 5, 5, 5]) {
+        0 => damage(random, if other { &mut case.second } else { &mut case.first }),
+        1 => *(if other { &mut case.second } else { &mut case.first }) = vec![0; random.below(12)],
+        2 if case.operation.makes_a_tree() => std::mem::swap(&mut case.first, &mut case.second),
+        2 => case.first = tape::encode(&Node::new(28, 0, vec![])),
+        _ => {
+            damage(random, &mut case.first);
+            damage(random, &mut case.second);
+        }
+    }
+}
+
+/// Now and then longer buffers, or one that is too short.
+fn vary_buffers(random: &mut Random, case: &mut Case) {
+    let least =
+        if case.operation.makes_a_tree() { [LEAST_RESULT, LEAST_WORK, LEAST_MESSAGE] } else { [0, 0, LEAST_MESSAGE] };
+    let mut sizes = least;
+    match random.weighted(&[88, 8, 4]) {
+        0 => {}
+        1 => sizes.iter_mut().filter(|n| **n > 0).for_each(|n| *n += random.size(2000)),
+        _ => {
+            let i = if case.operation.makes_a_tree() { random.below(3) } else { 2 };
+            sizes[i] = match random.below(3) {
+                0 => least[i] - 1,
+                1 => 0,
+                _ => random.below(least[i]),
+            };
+        }
+    }
+    [case.result, case.work, case.message] = sizes;
+}

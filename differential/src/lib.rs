@@ -1,0 +1,19 @@
+//! Compares the archive with the Rust, by running. See README.md.
+
+pub mod archive;
+pub mod bench_cases;
+pub mod brim;
+pub mod case;
+pub mod compare;
+pub mod damage;
+pub mod generate;
+pub mod message;
+pub mod model;
+pub mod places;
+pub mod random;
+pub mod record;
+pub mod tally;
+pub mod tape;
+pub mod trees;
+pub mod upstream;
+pub mod vectors;

@@ -1,0 +1,144 @@
+//! The commands. See README.md.
+
+use differential::case::{Answer, Case};
+use differential::compare::Machine;
+use differential::tally::Tally;
+use differential::tape::{self, Node};
+use differential::{archive, compare, generate, model, places, record, upstream, vectors};
+use std::process::ExitCode;
+
+const USAGE: &str = "differential COMMAND
+  run [--seed N] [--cases N] [--from N]   compare on cases from a seed
+  show [--seed N] [--from N]              print one of them, with its answer
+  replay FILE                             compare on a list of vectors, and with what it expects
+  record FILE [--seed N]                  write the fixed list";
+
+/// After so many differences a campaign ends.
+const ENOUGH: u64 = 20;
+
+fn main() -> ExitCode {
+    upstream::quiet_panics();
+    let args: Vec<String> = std::env::args().skip(1).collect();
+    let done = match args.first().map(String::as_str) {
+        Some("run") => option(&args, "--seed", 1)
+            .and_then(|seed| Ok(run(seed, option(&args, "--from", 0)?, option(&args, "--cases", 100_000)?))),
+        Some("show") => option(&args, "--seed", 1).and_then(|seed| Ok(show(seed, option(&args, "--from", 0)?))),
+        Some("replay") if args.len() == 2 => replay(&args[1]),
+        Some("record") if args.len() >= 2 => option(&args, "--seed", 1).and_then(|seed| record(&args[1], seed)),
+        _ => Err(USAGE.to_string()),
+    };
+    match done {
+        Ok(true) => ExitCode::SUCCESS,
+        Ok(false) => ExitCode::FAILURE,
+        Err(message) => {
+            eprintln!("{message}");
+            ExitCode::from(2)
+        }
+    }
+}
+
+/// The number behind `name`, or `otherwise`.
+fn option(args: &[String], name: &str, otherwise: u64) -> Result<u64, String> {
+    match args.iter().position(|a| a == name) {
+        None => Ok(otherwise),
+        Some(i) => args.get(i + 1).and_then(|n| n.parse().ok()).ok_or(format!("a number belongs behind {name}")),
+    }
+}
+
+fn machine() -> Option<Box<dyn Machine>> {
+    let machine = archive::linked();
+    println!("{}", if machine.is_some() { "with the archive" } else { "without an archive: model and upstream alone" });
+    machine
+}
+
+/// Upstream, the model and the archive on one case.
+fn compare_all(case: &Case, machine: &mut Option<Box<dyn Machine>>, tally: &mut Tally) -> Result<Answer, String> {
+    let (answer, notes, witness) = compare::expected(case)?;
+    tally.add(case, &answer, &notes, witness);
+    if let Some(machine) = machine {
+        compare::judge(machine.as_mut(), case, &answer).map_err(|e| format!("the archive: {e}"))?;
+    }
+    Ok(answer)
+}
+
+fn run(seed: u64, from: u64, cases: u64) -> bool {
+    let mut machine = machine();
+    let mut tally = Tally::default();
+    let (mut ran, mut differences) = (0, 0);
+    while ran < cases && differences < ENOUGH {
+        let case = generate::case(seed, from + ran);
+        if let Err(difference) = compare_all(&case, &mut machine, &mut tally) {
+            println!("case {}, {}: {difference}", from + ran, case.operation.name());
+            differences += 1;
+        }
+        ran += 1;
+        if ran % 100_000 == 0 {
+            eprintln!("{ran} cases");
+        }
+    }
+    tally.print();
+    for (operation, number) in tally.missing() {
+        println!("{} did not answer {number}", operation.name());
+    }
+    println!("seed {seed}, {ran} cases from {from}: {differences} differences");
+    differences == 0
+}
+
+fn replay(path: &str) -> Result<bool, String> {
+    let bytes = std::fs::read(path).map_err(|e| format!("{path}: {e}"))?;
+    let list = vectors::read(&bytes)?;
+    let mut machine = machine();
+    let mut tally = Tally::default();
+    let mut differences = 0;
+    for (i, expected) in list.iter().enumerate() {
+        let outcome = compare_all(&expected.case, &mut machine, &mut tally).and_then(|answer| {
+            let as_listed = answer.numbers() == expected.numbers
+                && vectors::without_zeros(&answer.result) == expected.result
+                && vectors::without_zeros(&answer.message) == expected.message;
+            if as_listed { Ok(()) } else { Err(format!("{:?}, the list has {:?}", answer.numbers(), expected.numbers)) }
+        });
+        if let Err(difference) = outcome {
+            println!("vector {i}, {}: {difference}", expected.case.operation.name());
+            differences += 1;
+        }
+    }
+    tally.print();
+    println!("{} vectors: {differences} differences", list.len());
+    Ok(differences == 0)
+}
+
+fn record(path: &str, seed: u64) -> Result<bool, String> {
+    let list = record::record(seed)?;
+    let bytes = vectors::write(&list);
+    std::fs::write(path, &bytes).map_err(|e| format!("{path}: {e}"))?;
+    println!("{} vectors, {} bytes", list.len(), bytes.len());
+    Ok(true)
+}
+
+fn show(seed: u64, index: u64) -> bool {
+    let case = generate::case(seed, index);
+    println!("{}, limit {}", case.operation.name(), case.limit);
+    println!("buffers: result {}, work {}, message {}", case.result, case.work, case.message);
+    for (bytes, root) in [&case.first, &case.second].into_iter().zip(places::roots(case.operation)) {
+        match tape::accept(bytes, *root) {
+            Ok(tree) => print_tree(&tree, 0),
+            Err(why) => println!("{why:?}: {bytes:02X?}"),
+        }
+    }
+    let (answer, notes) = model::answer(&case);
+    println!("number, start, end, message length, charged: {:?}", answer.numbers());
+    println!("{}", String::from_utf8_lossy(&answer.message));
+    notes.result.iter().for_each(|tree| print_tree(tree, 0));
+    true
+}
+
+fn print_tree(node: &Node, depth: usize) {
+    let text = String::from_utf8_lossy(&node.text);
+    let value = match tape::value(node.code) {
+        tape::Value::Span => format!("{}..{}", tape::span_start(node.value), tape::span_end(node.value)),
+        tape::Value::TextLength => format!("\"{text}\""),
+        _ => node.value.to_string(),
+    };
+    println!("{:indent$}{} {value}", "", node.code, indent = 2 * depth);
+    node.children.iter().for_each(|child| print_tree(child, depth + 1));
+}

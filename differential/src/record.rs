@@ -1,0 +1,254 @@
+//! The fixed list: cases that together show everything worth showing, as few bytes as may be.
+
+use crate::bench_cases;
+use crate::case::{Answer, Case, LEAST_MESSAGE, Operation};
+use crate::compare;
+use crate::generate;
+use crate::model::{self, Notes};
+use crate::places::{self, Place};
+use crate::tally;
+use crate::tape::{
+    self, LARGEST, LARGEST_CALLS, LARGEST_LITERAL, LARGEST_PARAMETERS, LARGEST_TEXT, Measure, Node, Sort, Unread,
+};
+use std::collections::{BTreeMap, BTreeSet};
+
+/// Something that a case shows.
+#[derive(Clone, Debug, PartialEq, Eq, PartialOrd, Ord)]
+enum Shows {
+    /// A number, with the code that was refused and the code that was found there.
+    Number(u64, u8, u8),
+    /// Why 1, 2 or 3.
+    Reason(u64, String),
+    /// The same for 3, where it is one too many.
+    OneTooMany(String),
+    /// Something accepted that stands exactly at a limit.
+    AtALimit(&'static str, &'static str),
+    /// What each tape is by itself, beside a buffer that is too short: 0, 2 or 3.
+    Tapes {
+        short: bool,
+        first: u64,
+        second: u64,
+    },
+    /// What a registry is by its names (0, 10 or 11), and its condition by itself.
+    Names {
+        names: u64,
+        condition: u64,
+    },
+    /// 3 for something that was made, by whether there would be a success if there were no limit.
+    Made {
+        otherwise_success: bool,
+    },
+    /// A refusal other than 3 after more was charged than a tape can hold.
+    LateRefusal,
+    /// A call with more arguments than a definition may have parameters.
+    ManyArguments,
+    /// A code on an accepted tape, of a success or of a refusal, and in a result.
+    Code {
+        success: bool,
+        code: u8,
+    },
+    ResultCode(u8),
+    /// A code in a place of a tape of which a tree was made.
+    Place(Place),
+    /// What a tree does not show.
+    Event(&'static str),
+    /// A number with so many digits behind a `$`.
+    Digits(usize),
+    /// So many 54s on a path, on a tape of a success.
+    Calls(usize),
+    /// So many charges in a success.
+    Charges(usize),
+    /// So many declared names in the message of 20.
+    Declared(usize),
+    /// Exactly the limit was charged.
+    WholeBudget,
+    /// Buffers longer than the least, by whether there was a message.
+    LongBuffers(bool),
+}
+
+/// The cases that are looked through. More of them give a smaller list, slowly.
+const POOL: u64 = 400_000;
+/// So many of the smallest cases are kept for each thing that can be shown.
+const KEPT: usize = 4;
+
+struct Candidate {
+    case: Case,
+    answer: Answer,
+    shows: BTreeSet<(u8, Shows)>,
+}
+
+impl Candidate {
+    fn new(case: Case) -> Result<Candidate, String> {
+        let (answer, notes, _) = compare::expected(&case)?;
+        let operation = |s: &Shows| match s {
+            // The format is one for all operations.
+            Shows::Place(_) => 0,
+            _ => case.operation as u8 + 1,
+        };
+        let shows = shows(&case, &answer, &notes).into_iter().map(|s| (operation(&s), s)).collect();
+        Ok(Candidate { case, answer, shows })
+    }
+
+    fn cost(&self) -> usize {
+        // what a vector has beside its tapes and buffers
+        const FRAME: usize = 73;
+        FRAME + self.case.bytes() + self.answer.result.len() + self.answer.message.len()
+    }
+}
+
+/// The bench cases, and behind them cases from the seed until everything that any of them shows is shown.
+pub fn record(seed: u64) -> Result<Vec<(Case, Answer)>, String> {
+    let mut chosen = bench_cases::cases().into_iter().map(Candidate::new).collect::<Result<Vec<_>, _>>()?;
+    let mut left = smallest(seed)?;
+    loop {
+        let shown: BTreeSet<_> = chosen.iter().flat_map(|c| c.shows.iter().cloned()).collect();
+        left.iter_mut().for_each(|c| c.shows.retain(|s| !shown.contains(s)));
+        left.retain(|c| !c.shows.is_empty());
+        // the most that is new for its bytes
+        let worth = |c: &Candidate| c.shows.len() * (1 << 32) / c.cost();
+        let Some(best) = (0..left.len()).max_by_key(|i| worth(&left[*i])) else { break };
+        chosen.push(left.swap_remove(best));
+    }
+    Ok(chosen.into_iter().map(|c| (c.case, c.answer)).collect())
+}
+
+/// For each thing that can be shown the smallest cases that show it.
+fn smallest(seed: u64) -> Result<Vec<Candidate>, String> {
+    let mut least: BTreeMap<(u8, Shows), Vec<(usize, u64)>> = BTreeMap::new();
+    for index in 0..POOL {
+        let candidate = Candidate::new(generate::case(seed, index))?;
+        for shows in &candidate.shows {
+            let of = least.entry(shows.clone()).or_default();
+            of.push((candidate.cost(), index));
+            of.sort_unstable();
+            of.truncate(KEPT);
+        }
+    }
+    let kept: BTreeSet<u64> = least.values().flatten().map(|(_, index)| *index).collect();
+    kept.into_iter().map(|index| Candidate::new(generate::case(seed, index))).collect()
+}
+
+// ------------------------------------------------------------------ what a case shows
+
+fn shows(case: &Case, answer: &Answer, notes: &Notes) -> Vec<Shows> {
+    let success = answer.number == 0;
+    let mut all = vec![Shows::Number(answer.number, notes.cause.0, notes.cause.1)];
+    all.extend(notes.events.iter().map(|e| Shows::Event(e)));
+    all.extend(of_refusals(case, answer, notes));
+    if let Some((first, second)) = &notes.trees {
+        let mut places = BTreeSet::new();
+        places::seen(first, 0, &mut places);
+        second.iter().for_each(|tree| places::seen(tree, 1, &mut places));
+        all.extend(places.iter().map(|(.., code)| Shows::Code { success, code: *code }));
+        if success {
+            if case.operation.makes_a_tree() {
+                all.extend(places.into_iter().map(Shows::Place));
+            }
+            all.extend(second.iter().map(|tree| Shows::Calls(tape::measure(tree).calls)));
+            all.push(Shows::Charges(notes.charges.min(12)));
+        }
+        for tree in [Some(first), second.as_ref()].into_iter().flatten() {
+            all.extend(at_limits(tree));
+            tree.visit(&mut |node| {
+                if node.code == 54 && node.children[1].value > LARGEST_PARAMETERS as u64 {
+                    all.push(Shows::ManyArguments);
+                }
+            });
+        }
+    }
+    if success {
+        all.extend(notes.measured.iter().flat_map(|(what, m)| {
+            let what = ["54", "outcome", "whole"][*what as usize];
+            at_figures(m).map(move |figure| Shows::AtALimit(what, figure))
+        }));
+    }
+    if let Some(result) = &notes.result {
+        result.visit(&mut |node| all.push(Shows::ResultCode(node.code)));
+        all.extend(generated_digits(result).map(Shows::Digits));
+        if answer.charged > 0 && answer.charged == u64::from(case.limit) {
+            all.push(Shows::WholeBudget);
+        }
+    }
+    if answer.number == 20 {
+        let declared = answer.message.iter().rev().take_while(|b| **b != b':').filter(|b| **b == b'?').count();
+        all.push(Shows::Declared(declared.min(4)));
+    }
+    if case.message > LEAST_MESSAGE && answer.number != 1 {
+        all.push(Shows::LongBuffers(answer.message.is_empty()));
+    }
+    all
+}
+
+/// Which refusal stands before which.
+fn of_refusals(case: &Case, answer: &Answer, notes: &Notes) -> Vec<Shows> {
+    let number = answer.number;
+    let mut all = Vec::new();
+    if let Some(reason) = tally::reason(answer, notes) {
+        if notes.over_by == 1 {
+            all.push(Shows::OneTooMany(reason.clone()));
+        }
+        all.push(Shows::Reason(number, reason));
+    }
+    let read = |bytes: &[u8], root: usize| match places::roots(case.operation).get(root) {
+        Some(root) => tape::accept(bytes, *root).map_or_else(number_of, |_| 0),
+        None => 0,
+    };
+    let (first, second) = (read(&case.first, 0), read(&case.second, 1));
+    all.push(Shows::Tapes { short: number == 1, first, second });
+    if case.operation == Operation::Expand
+        && let Ok(definitions) = tape::accept(&case.first, Sort::Definitions)
+    {
+        let names = model::registry(&definitions).map_or_else(|refusal| refusal.number, |()| 0);
+        all.push(Shows::Names { names, condition: second });
+    }
+    if notes.too_large.is_some() {
+        all.push(Shows::Made { otherwise_success: model::without_limit(case) == 0 });
+    } else if number > 3 && answer.charged > LARGEST.entries as u64 {
+        all.push(Shows::LateRefusal);
+    }
+    all
+}
+
+fn number_of(unread: Unread) -> u64 {
+    match unread {
+        Unread::Malformed(_) => 2,
+        Unread::TooLarge(_) => 3,
+    }
+}
+
+fn at_figures(m: &Measure) -> impl Iterator<Item = &'static str> + use<> {
+    let figures = [
+        (m.entries == LARGEST.entries, "entries"),
+        (m.text == LARGEST.text, "text"),
+        (m.nesting == LARGEST.nesting, "nesting"),
+        (m.calls == LARGEST_CALLS, "calls"),
+    ];
+    figures.into_iter().filter(|(at, _)| *at).map(|(_, figure)| figure)
+}
+
+/// What of an accepted tape stands exactly at a limit.
+fn at_limits(tree: &Node) -> Vec<Shows> {
+    let mut all: Vec<&'static str> = at_figures(&tape::measure(tree)).collect();
+    tree.visit(&mut |node| match node.code {
+        22 if node.text.len() == LARGEST_LITERAL => all.push("decimal"),
+        23 if node.text.len() == LARGEST_LITERAL => all.push("string"),
+        60 if node.children[1].value == LARGEST_PARAMETERS as u64 => all.push("parameters"),
+        22 | 23 => {}
+        _ if node.text.len() == LARGEST_TEXT => all.push("name"),
+        _ => {}
+    });
+    all.into_iter().map(|figure| Shows::AtALimit("tape", figure)).collect()
+}
+
+/// How many digits stand behind the `$` of names that look generated.
+fn generated_digits(result: &Node) -> impl Iterator<Item = usize> {
+    let mut all = BTreeSet::new();
+    result.visit(&mut |node| {
+        let digits = node.text.iter().rev().take_while(|b| b.is_ascii_digit()).count();
+        let before = node.text.len() - digits;
+        if matches!(node.code, 27 | 43) && digits > 0 && before > 0 && node.text[before - 1] == b'$' {
+            all.insert(digits);
+        }
+    });
+    all.into_iter()
+}

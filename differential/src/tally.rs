@@ -1,0 +1,119 @@
+//! What came up in a campaign.
+
+use crate::case::{Answer, Case, OPERATIONS, Operation};
+use crate::compare::{WITNESSES, Witness};
+use crate::model::{Notes, TooLarge};
+use crate::places::{self, Place};
+use crate::tape;
+use std::collections::{BTreeMap, BTreeSet};
+
+/// The numbers that an operation can answer.
+pub fn possible(operation: Operation) -> Vec<u64> {
+    match operation {
+        Operation::Check => vec![0, 1, 2, 3, 20, 21, 22],
+        Operation::Registry => vec![0, 1, 2, 3, 10, 11],
+        Operation::Substitute => [vec![0, 1, 2, 3, 31, 34, 35], (41..=48).collect()].concat(),
+        Operation::Expand => [vec![0, 1, 2, 3, 10, 11], (30..=48).collect()].concat(),
+    }
+}
+
+#[derive(Default)]
+pub struct Tally {
+    numbers: BTreeMap<(u64, Operation), u64>,
+    reasons: BTreeMap<(u64, String), u64>,
+    witnesses: BTreeMap<Witness, u64>,
+    places: BTreeMap<Operation, BTreeSet<Place>>,
+    /// How many accepted tapes and results were of which size, and how many charges a success made.
+    sizes: BTreeMap<(&'static str, usize), u64>,
+}
+
+/// The last number of each class in which sizes are counted.
+const CLASSES: [usize; 9] = [0, 3, 15, 63, 255, 511, 767, 1023, 1024];
+
+impl Tally {
+    pub fn add(&mut self, case: &Case, answer: &Answer, notes: &Notes, witness: Witness) {
+        *self.numbers.entry((answer.number, case.operation)).or_default() += 1;
+        *self.witnesses.entry(witness).or_default() += 1;
+        if let Some(reason) = reason(answer, notes) {
+            *self.reasons.entry((answer.number, reason)).or_default() += 1;
+        }
+        if let Some((first, second)) = &notes.trees {
+            let seen = self.places.entry(case.operation).or_default();
+            places::seen(first, 0, seen);
+            second.iter().for_each(|tree| places::seen(tree, 1, seen));
+            self.count("entries on an accepted tape", tape::measure(first).entries);
+            second.iter().for_each(|tree| self.count("entries on an accepted tape", tape::measure(tree).entries));
+        }
+        if let Some(result) = &notes.result {
+            self.count("entries of a result", tape::measure(result).entries);
+            self.count("charges of a success", notes.charges);
+        }
+    }
+
+    fn count(&mut self, what: &'static str, size: usize) {
+        let class = CLASSES.iter().position(|last| size <= *last).expect("1,024 is the most");
+        *self.sizes.entry((what, class)).or_default() += 1;
+    }
+
+    /// The numbers that an operation can answer and did not.
+    pub fn missing(&self) -> Vec<(Operation, u64)> {
+        OPERATIONS
+            .into_iter()
+            .flat_map(|op| possible(op).into_iter().map(move |n| (op, n)))
+            .filter(|(op, n)| !self.numbers.contains_key(&(*n, *op)))
+            .collect()
+    }
+
+    pub fn print(&self) {
+        println!("{:>8} {:>10} {:>10} {:>10} {:>10}", "number", "check", "registry", "substitute", "expand");
+        let numbers: BTreeSet<u64> = self.numbers.keys().map(|(n, _)| *n).collect();
+        for number in numbers {
+            let of = |op| self.numbers.get(&(number, op)).map_or("-".to_string(), u64::to_string);
+            let [check, registry, substitute, expand] = OPERATIONS.map(of);
+            println!("{number:>8} {check:>10} {registry:>10} {substitute:>10} {expand:>10}");
+        }
+        println!("why 1, 2 and 3:");
+        for ((number, reason), count) in &self.reasons {
+            println!("{count:>10} {number} {reason}");
+        }
+        println!("who stands behind the answers:");
+        for (witness, text) in WITNESSES {
+            println!("{:>10} {text}", self.witnesses.get(&witness).unwrap_or(&0));
+        }
+        println!("codes in places, on accepted tapes:");
+        for op in OPERATIONS {
+            let all = places::all(places::roots(op));
+            let none = BTreeSet::new();
+            let seen = self.places.get(&op).unwrap_or(&none);
+            let unseen: Vec<_> =
+                all.difference(seen).map(|(above, .., code)| format!("{code} below {above}")).collect();
+            print!("{:>10} of {} {}", all.len() - unseen.len(), all.len(), op.name());
+            println!("{}", if unseen.len() < 10 { format!(" {}", unseen.join(", ")) } else { String::new() });
+        }
+        println!("sizes:");
+        let mut first = 0;
+        print!("{:>30}", "");
+        for last in CLASSES {
+            print!(" {:>9}", if first == last { format!("{last}") } else { format!("{first}-{last}") });
+            first = last + 1;
+        }
+        println!();
+        for what in ["entries on an accepted tape", "entries of a result", "charges of a success"] {
+            print!("{what:>30}");
+            (0..CLASSES.len()).for_each(|i| print!(" {:>9}", self.sizes.get(&(what, i)).unwrap_or(&0)));
+            println!();
+        }
+    }
+}
+
+/// What was too short, malformed or too large.
+pub fn reason(answer: &Answer, notes: &Notes) -> Option<String> {
+    let what = match &notes.too_large {
+        Some(TooLarge::Call { .. }) => "of a 54 with its arguments: ",
+        Some(TooLarge::Outcome { .. }) => "of a call's outcome: ",
+        Some(TooLarge::Whole { .. }) => "of the whole result: ",
+        None if answer.number == 3 => "of a tape: ",
+        None => "",
+    };
+    matches!(answer.number, 1..=3).then(|| format!("{what}{}", notes.reason))
+}

@@ -1,0 +1,98 @@
+//! Lists of cases with their answers, in the format that README.md gives.
+
+use crate::case::{Answer, Case, OPERATIONS};
+
+const MARK: &[u8; 8] = b"ORACLEV1";
+
+pub fn write(vectors: &[(Case, Answer)]) -> Vec<u8> {
+    let mut out = MARK.to_vec();
+    put_u32(&mut out, vectors.len());
+    for (case, answer) in vectors {
+        out.push(case.operation as u8 + 1);
+        put_u32(&mut out, case.limit as usize);
+        put_bytes(&mut out, &case.first);
+        put_bytes(&mut out, &case.second);
+        [case.result, case.work, case.message].iter().for_each(|n| put_u32(&mut out, *n));
+        answer.numbers().iter().for_each(|n| out.extend_from_slice(&n.to_le_bytes()));
+        put_bytes(&mut out, without_zeros(&answer.result));
+        put_bytes(&mut out, without_zeros(&answer.message));
+    }
+    out
+}
+
+fn put_u32(out: &mut Vec<u8>, n: usize) {
+    out.extend_from_slice(&u32::try_from(n).expect("below 2^32").to_le_bytes());
+}
+
+fn put_bytes(out: &mut Vec<u8>, bytes: &[u8]) {
+    put_u32(out, bytes.len());
+    out.extend_from_slice(bytes);
+}
+
+/// What stands before the zeros at the end of a buffer.
+pub fn without_zeros(bytes: &[u8]) -> &[u8] {
+    let end = bytes.iter().rposition(|b| *b != 0).map_or(0, |i| i + 1);
+    &bytes[..end]
+}
+
+/// A case with what a list expects of it: the five numbers, and the two buffers without the zeros at their ends.
+pub struct Expected {
+    pub case: Case,
+    pub numbers: [u64; 5],
+    pub result: Vec<u8>,
+    pub message: Vec<u8>,
+}
+
+pub fn read(bytes: &[u8]) -> Result<Vec<Expected>, String> {
+    let mut r = Reader { rest: bytes };
+    if r.take(8)? != MARK {
+        return Err("no list of vectors".to_string());
+    }
+    let count = r.u32()?;
+    let vectors = (0..count).map(|_| r.vector()).collect::<Result<Vec<_>, _>>()?;
+    if r.rest.is_empty() { Ok(vectors) } else { Err(format!("{} bytes behind the last vector", r.rest.len())) }
+}
+
+struct Reader<'a> {
+    rest: &'a [u8],
+}
+
+impl<'a> Reader<'a> {
+    fn take(&mut self, n: usize) -> Result<&'a [u8], String> {
+        let (taken, rest) = self.rest.split_at_checked(n).ok_or("the list ends inside a vector")?;
+        self.rest = rest;
+        Ok(taken)
+    }
+
+    fn u32(&mut self) -> Result<u32, String> {
+        Ok(u32::from_le_bytes(self.take(4)?.try_into().expect("4 bytes")))
+    }
+
+    fn u64(&mut self) -> Result<u64, String> {
+        Ok(u64::from_le_bytes(self.take(8)?.try_into().expect("8 bytes")))
+    }
+
+    fn bytes(&mut self) -> Result<Vec<u8>, String> {
+        let n = self.u32()?;
+        Ok(self.take(n as usize)?.to_vec())
+    }
+
+    fn vector(&mut self) -> Result<Expected, String> {
+        let operation = usize::from(self.take(1)?[0]);
+        let operation = *OPERATIONS.get(operation.wrapping_sub(1)).ok_or(format!("no operation {operation}"))?;
+        let case = Case {
+            operation,
+            limit: self.u32()?,
+            first: self.bytes()?,
+            second: self.bytes()?,
+            result: self.u32()? as usize,
+            work: self.u32()? as usize,
+            message: self.u32()? as usize,
+        };
+        let mut numbers = [0; 5];
+        for n in &mut numbers {
+            *n = self.u64()?;
+        }
+        Ok(Expected { case, numbers, result: self.bytes()?, message: self.bytes()? })
+    }
+}

@@ -1,0 +1,107 @@
+//! The comparison notices machines that answer wrongly: among them the fakes that document 01 names.
+
+use differential::case::{Answer, Case, Operation};
+use differential::compare::{self, Lent, Machine};
+use differential::{generate, model, upstream};
+
+type Change = fn(&Case, &mut Answer);
+
+/// The model behind the archive's calls, with one fault.
+struct Faulty {
+    change: Change,
+    /// The byte that is left behind what is written, where zeros belong.
+    rest: u8,
+    work: u8,
+}
+
+const FAULTLESS: Faulty = Faulty { change: |_, _| {}, rest: 0, work: 0 };
+
+impl Machine for Faulty {
+    fn run(&mut self, case: &Case, lent: Lent) {
+        let (mut answer, _) = model::answer(case);
+        (self.change)(case, &mut answer);
+        fill(lent.result, &answer.result, self.rest);
+        fill(lent.message, &answer.message, self.rest);
+        lent.work.fill(self.work);
+        *lent.answer = answer.numbers();
+    }
+}
+
+fn fill(buffer: &mut [u8], head: &[u8], rest: u8) {
+    buffer.fill(rest);
+    let n = head.len().min(buffer.len());
+    buffer[..n].copy_from_slice(&head[..n]);
+}
+
+/// How many of the first cases of a campaign are answered wrongly.
+fn noticed(mut machine: Faulty) -> usize {
+    upstream::quiet_panics();
+    (0..1500)
+        .filter(|index| {
+            let case = generate::case(7, *index);
+            let (answer, _, _) = compare::expected(&case).expect("model and upstream agree");
+            compare::judge(&mut machine, &case, &answer).is_err()
+        })
+        .count()
+}
+
+#[test]
+fn the_model_itself_passes() {
+    assert_eq!(noticed(FAULTLESS), 0);
+}
+
+#[test]
+fn wrong_answers_are_noticed() {
+    let changes: [(&str, Change); 9] = [
+        ("refuses each call", |case, answer| {
+            if case.operation.makes_a_tree() && answer.charged > 0 {
+                *answer = Answer { number: 30, ..Answer::default() };
+            }
+        }),
+        ("returns a fixed tree", |_, answer| {
+            if !answer.result.is_empty() {
+                answer.result = vec![1, 0, 0, 0, 0, 0, 0, 0, 28, 0, 0, 0, 0, 0, 0, 0, 0];
+            }
+        }),
+        ("hands its input back", |case, answer| {
+            if case.operation == Operation::Expand && answer.number == 0 {
+                answer.result = case.second.clone();
+            }
+        }),
+        ("invents the charge", |_, answer| answer.charged += u64::from(answer.charged > 0)),
+        ("says 35 at once", |case, answer| {
+            if case.operation.makes_a_tree() && answer.number == 0 {
+                answer.number = 35;
+            }
+        }),
+        ("passes every definition", |case, answer| {
+            if case.operation == Operation::Check && answer.number >= 20 {
+                *answer = Answer::default();
+            }
+        }),
+        ("refuses every definition", |case, answer| {
+            if case.operation == Operation::Check && answer.number == 0 {
+                answer.number = 20;
+            }
+        }),
+        ("says 2 for 3", |_, answer| {
+            if answer.number == 3 {
+                answer.number = 2;
+            }
+        }),
+        ("has a wrong letter in a message", |_, answer| {
+            if let Some(last) = answer.message.last_mut() {
+                *last ^= 1;
+            }
+        }),
+    ];
+    for (what, change) in changes {
+        assert!(noticed(Faulty { change, ..FAULTLESS }) > 0, "{what}");
+    }
+}
+
+#[test]
+fn bytes_that_should_be_zero_are_noticed() {
+    assert!(noticed(Faulty { rest: 1, ..FAULTLESS }) > 1000);
+    assert!(noticed(Faulty { work: 1, ..FAULTLESS }) > 1000);
+}
