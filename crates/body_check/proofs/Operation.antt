@@ -3,11 +3,7 @@
 use Prim.Native.Nat.{ℕ, _≤_}
 use mathlib.Core.Path.{_≡_}
 use mathlib.Core.List.{List}
-use lib.Dec.{T, leb}
-use lib.ListN.{length}
-use Rattle.format.specs.Ast.{MacroDef}
-use Rattle.format.specs.Limits.{isNode, isCall, deepBody}
-use Rattle.format.specs.Tape.{Bytes, smallBody, definitionRoot}
+use Rattle.format.specs.Tape.{Bytes, definitionRoot}
 use Rattle.definition.specs.Check.{Verdict, checkDef}
 use Rattle.definition.specs.Answers.{Answer, checkAnswer}
 use Rattle.definition.proofs.Kept.{check-bounded}
@@ -16,8 +12,7 @@ use Rattle.tape.specs.declared.header.Opened.the-variants.{Tape}
 use Rattle.tape.specs.declared.layout.Layout.{Layout}
 use Rattle.tape.specs.declared.layout.Place.{Place}
 use Rattle.tape.proofs.Located.{accepted-inside}
-use Rattle.tape.proofs.Roots.{definition-root, accepted-root, nesting-64}
-use Rattle.tape.proofs.Tests.{and-right}
+use Rattle.tape.proofs.Roots.{definition-root, accepted-root, small-nesting}
 use Rattle.answer.specs.Told.{Judges, Concludes}
 use Rattle.answer.specs.declared.Verdict as code
 use Rattle.answer.proofs.Operations.{ends-judged}
@@ -30,11 +25,6 @@ judges : {s : List ℕ} {l : Layout} {x : Checked} {end : Place} {v : Verdict} �
 unfolding Judges
 judges (passes e) = rw e tt
 judges (refuses e says) = rw e says
-
--- the nesting that a definition's limits leave
-small-nesting : (def : MacroDef) → T (smallBody def) → deepBody isNode (def .body) ≤ 64
-unfolding smallBody
-small-nesting def t = nesting-64 (deepBody isNode (def .body)) (deepBody isCall (def .body)) (and-right (leb (length (def .params)) 16) _ t)
 
 module _ (m : ℕ) (s : List ℕ) {a : Answer} where
   pub checked-definition : {l : Layout} {w : Checked} {v : code.Verdict} → Bytes s → 2048 ≤ m → acceptOf s 14 ≡ Tape l

@@ -11,6 +11,7 @@ use Rattle.format.specs.Entry.{Text}
 use Rattle.format.specs.Ast.{WithinSpec, BinderSlot, TypedBinder, Sigil, Condition, Term, AggExpr, NamedArgs, Terms}
 use Rattle.format.specs.Flat.{flatWithin, flatSlot, flatType, flatBinders, lengthTerms, lengthFields, flatCondition, flatTerm, flatAgg, flatFields, flatTerms}
 use Rattle.format.specs.Limits.{isNode, weigh, deepCondition, deepTerm, deepAgg, deepFields, deepTerms}
+use Rattle.format.proofs.Deep.{deep-condition, deep-term, deep-agg}
 use Rattle.definition.specs.Outcome.{Refusal, refusal}
 use Rattle.definition.specs.Messages.{undeclaredParameter}
 use Rattle.definition.specs.Check.{
@@ -356,46 +357,6 @@ module _ (s : List ℕ) (d : Declared) (names : List Text) (declared : declaredI
         rw (i .read) (ending (i .runs .ends)
         (chain (W .condition) (R .strict-condition) (binders-right bs sp (i .runs .first)) (R .condition c (i .runs .second) (omega arith))))
     agg-right (AggExpr.AggCall sp c) p h m = rw (parts-agg (AggExpr.AggCall sp c) h .read) (call-right sp)
-
-  -- no tree is 0 deep
-  deep-condition : (c : Condition) → deepCondition isNode c ≤ 0 → ⊥
-  unfolding deepCondition isNode weigh
-  deep-condition (Condition.And sp a b) m = omega arith
-  deep-condition (Condition.Or sp a b) m = omega arith
-  deep-condition (Condition.Not sp a) m = omega arith
-  deep-condition (Condition.Formerly sp w a) m = omega arith
-  deep-condition (Condition.Previous sp w a) m = omega arith
-  deep-condition (Condition.Since sp a w b) m = omega arith
-  deep-condition (Condition.Predicate sp o ns a k fs) m = omega arith
-  deep-condition (Condition.Comparison sp op a b) m = omega arith
-  deep-condition (Condition.Exists sp b a) m = omega arith
-  deep-condition (Condition.Tp sp v) m = omega arith
-  deep-condition (Condition.ConditionCall sp c) m = omega arith
-  deep-condition (Condition.SigilRef sp g name) m = omega arith
-  deep-condition (Condition.Refine sp o a fs) m = omega arith
-
-  deep-term : (t : Term) → deepTerm isNode t ≤ 0 → ⊥
-  unfolding deepCondition isNode weigh
-  deep-term (Term.Entity ty id) m = omega arith
-  deep-term (Term.Integer v) m = omega arith
-  deep-term (Term.Decimal t) m = omega arith
-  deep-term (Term.String t) m = omega arith
-  deep-term (Term.Bool b) m = omega arith
-  deep-term (Term.ContextField path) m = omega arith
-  deep-term (Term.ScopeField path) m = omega arith
-  deep-term (Term.Var name) m = omega arith
-  deep-term Term.Wildcard m = omega arith
-  deep-term (Term.Array ts) m = omega arith
-  deep-term (Term.Agg a) m = omega arith
-  deep-term (Term.Arith op a b) m = omega arith
-  deep-term (Term.ParamRef name) m = omega arith
-  deep-term (Term.BinderRef name) m = omega arith
-
-  deep-agg : (a : AggExpr) → deepAgg isNode a ≤ 0 → ⊥
-  unfolding deepCondition isNode weigh
-  deep-agg (AggExpr.Sum sp v bs c) m = omega arith
-  deep-agg (AggExpr.Count sp bs c) m = omega arith
-  deep-agg (AggExpr.AggCall sp c) m = omega arith
 
   pub right : (n : ℕ) → Right (walkers s d n) n
   unfolding walkers

@@ -56,7 +56,7 @@ pub fn stop(span: u64, reason: Reason) -> Checked
     Checked::Refused(refuse(span, reason))
 }
 
-// No list stands there.
+// What was asked for does not stand there, which no accepted tape shows.
 pub fn malformed() -> Checked
     ensures { λ r. ⌜ r ≡ malformedIn ⌝ }
 {

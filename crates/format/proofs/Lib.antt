@@ -6,3 +6,4 @@ pub mod Accepted
 pub mod Encodes
 pub mod Exact
 pub mod Stands
+pub mod Deep

@@ -8,30 +8,33 @@ use buffer::write_number;
 use tape::layout::Layout;
 use tape::layout::Place;
 use tape::node::Name;
-use tape::node::name_at;
 ghost use Rattle.definition.specs.Outcome.{spanStart};
 ghost use Rattle.definition.specs.Messages.{reservedName, duplicateDefinition, undeclaredParameter, plainIdentifier, macroInMacro};
 ghost use Rattle.tape.specs.Node.{nameAt};
 ghost use Rattle.buffer.specs.Buffer.{Written};
 ghost use Rattle.messages.specs.Names.{namesAt};
 
-pub fn reserved_name(message: &mut [u8], name: &[u8]) -> usize
-    ensures { λ r. ⌜ Written (now (message .entry)) (now (message .exit)) r (reservedName (now (name .entry))) ⌝ }
+pub fn reserved_name(message: &mut [u8], s: &[u8], l: Layout, name: Name) -> usize
+    ensures { λ r. ⌜ Written (now (message .entry)) (now (message .exit)) r (reservedName (nameAt (now (s .entry)) l name)) ⌝ }
 {
     around(
         message,
         b"macro name `",
+        s,
+        l,
         name,
         b"` is reserved (built-in or keyword); pick a different name",
     )
 }
 
-pub fn duplicate_definition(message: &mut [u8], name: &[u8], span: u64) -> usize
-    ensures { λ r. ⌜ Written (now (message .entry)) (now (message .exit)) r (duplicateDefinition (now (name .entry)) (spanStart span)) ⌝ }
+pub fn duplicate_definition(message: &mut [u8], s: &[u8], l: Layout, name: Name, span: u64) -> usize
+    ensures { λ r. ⌜ Written (now (message .entry)) (now (message .exit)) r (duplicateDefinition (nameAt (now (s .entry)) l name) (spanStart span)) ⌝ }
 {
     let a = around(
         message,
         b"duplicate macro definition `",
+        s,
+        l,
         name,
         b"` (previously defined at byte ",
     );
@@ -52,30 +55,38 @@ pub fn undeclared_parameter(
     let a = around(
         message,
         b"in `def temporal` body: `?",
-        name_at(s, l, name),
+        s,
+        l,
+        name,
         b"` does not name a declared parameter (declared: ",
     );
     params_above(message, a, s, l, params, count, Least::Nothing)
 }
 
-pub fn plain_identifier(message: &mut [u8], name: &[u8]) -> usize
-    ensures { λ r. ⌜ Written (now (message .entry)) (now (message .exit)) r (plainIdentifier (now (name .entry))) ⌝ }
+pub fn plain_identifier(message: &mut [u8], s: &[u8], l: Layout, name: Name) -> usize
+    ensures { λ r. ⌜ Written (now (message .entry)) (now (message .exit)) r (plainIdentifier (nameAt (now (s .entry)) l name)) ⌝ }
 {
     let a = around(
         message,
         b"in `def temporal` body: plain identifier `",
+        s,
+        l,
         name,
         b"` is not allowed, because expansion does not rename it and it can capture or bind a call-site variable; write `$",
     );
     let b = named(
         message,
         a,
+        s,
+        l,
         name,
         b"` for a variable the macro binds itself, or declare a `?",
     );
     named(
         message,
         b,
+        s,
+        l,
         name,
         b"` parameter for a variable the caller names",
     )

@@ -29,7 +29,6 @@ use tape::layout::Place;
 use tape::node::Name;
 use tape::node::Sigil;
 use tape::node::Span;
-use tape::node::name_at;
 use tape::node::span_of;
 ghost use mathlib.Core.Path.{_≡_};
 ghost use lib.ListN.{length};
@@ -153,29 +152,29 @@ fn said(s: &[u8], d: Layout, t: &[u8], c: Layout, reason: Reason, m: &mut [u8]) 
 {
     match reason {
         Reason::Silent(_) => 0,
-        Reason::Reserved(n) => reserved_name(m, name_at(s, d, n)),
-        Reason::Duplicate(n, span) => duplicate_definition(m, name_at(s, d, n), span),
+        Reason::Reserved(n) => reserved_name(m, s, d, n),
+        Reason::Duplicate(n, span) => duplicate_definition(m, s, d, n, span),
         Reason::Undeclared(n, params, count) => undeclared_parameter(m, s, d, n, params, count),
-        Reason::PlainIdentifier(n) => plain_identifier(m, name_at(s, d, n)),
+        Reason::PlainIdentifier(n) => plain_identifier(m, s, d, n),
         Reason::MacroInMacro => macro_in_macro(m),
-        Reason::UnknownMacro(n) => unknown_macro(m, name_at(t, c, n)),
-        Reason::CedarInCondition(n) => cedar_in_condition(m, name_at(t, c, n)),
-        Reason::CedarInValue(n) => cedar_in_value(m, name_at(t, c, n)),
-        Reason::ValueAsCondition(n) => value_as_condition(m, name_at(t, c, n)),
-        Reason::ConditionAsValue(n) => condition_as_value(m, name_at(t, c, n)),
-        Reason::ArgumentCount(n, wanted, got) => argument_count(m, name_at(s, d, n), wanted, got),
+        Reason::UnknownMacro(n) => unknown_macro(m, t, c, n),
+        Reason::CedarInCondition(n) => cedar_in_condition(m, t, c, n),
+        Reason::CedarInValue(n) => cedar_in_value(m, t, c, n),
+        Reason::ValueAsCondition(n) => value_as_condition(m, t, c, n),
+        Reason::ConditionAsValue(n) => condition_as_value(m, t, c, n),
+        Reason::ArgumentCount(n, wanted, got) => argument_count(m, s, d, n, wanted, got),
         Reason::Budget(limit) => budget_exceeded(m, limit),
-        Reason::StrayCondition(g, n) => stray_condition(m, g, name_at(t, c, n)),
-        Reason::StrayWithin(n) => stray_within(m, name_at(t, c, n)),
-        Reason::StraySlot(g, n) => stray_slot(m, g, name_at(t, c, n)),
-        Reason::StrayField(g, n) => stray_field(m, g, name_at(t, c, n)),
-        Reason::StrayOperand(g, n) => stray_operand(m, g, name_at(t, c, n)),
-        Reason::Unbound(f, n) => unbound_parameter(m, name_at(s, d, f), name_at(s, d, n)),
-        Reason::NotACondition(f, n) => not_a_condition(m, name_at(s, d, f), name_at(s, d, n)),
-        Reason::BinderAsCondition(n) => binder_as_condition(m, name_at(s, d, n)),
-        Reason::NotAnInterval(f, n) => not_an_interval(m, name_at(s, d, f), name_at(s, d, n)),
-        Reason::NotATerm(f, n) => not_a_term(m, name_at(s, d, f), name_at(s, d, n)),
-        Reason::NotAnIdentifier(f, n) => not_an_identifier(m, name_at(s, d, f), name_at(s, d, n)),
+        Reason::StrayCondition(g, n) => stray_condition(m, g, t, c, n),
+        Reason::StrayWithin(n) => stray_within(m, t, c, n),
+        Reason::StraySlot(g, n) => stray_slot(m, g, t, c, n),
+        Reason::StrayField(g, n) => stray_field(m, g, t, c, n),
+        Reason::StrayOperand(g, n) => stray_operand(m, g, t, c, n),
+        Reason::Unbound(f, n) => unbound_parameter(m, s, d, f, n),
+        Reason::NotACondition(f, n) => not_a_condition(m, s, d, f, n),
+        Reason::BinderAsCondition(n) => binder_as_condition(m, s, d, n),
+        Reason::NotAnInterval(f, n) => not_an_interval(m, s, d, f, n),
+        Reason::NotATerm(f, n) => not_a_term(m, s, d, f, n),
+        Reason::NotAnIdentifier(f, n) => not_an_identifier(m, s, d, f, n),
         Reason::NotAPredicate(code) => not_a_predicate(m, code),
     }
 }

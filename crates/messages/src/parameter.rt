@@ -2,83 +2,105 @@
 use crate::pieces::around;
 use crate::pieces::named;
 use buffer::write_at;
+use tape::layout::Layout;
+use tape::node::Name;
 ghost use mathlib.Core.Path.{_≡_};
 ghost use mathlib.Core.List.{[], _∷_};
 ghost use Rattle.definition.specs.Text.{utf8};
 ghost use Rattle.definition.specs.Messages.{unboundParameter, notACondition, binderAsCondition, notAnInterval, notATerm, notAnIdentifier, conditionShape, notAPredicate};
+ghost use Rattle.tape.specs.Node.{nameAt};
 ghost use Rattle.buffer.specs.Buffer.{messageIn, writeIn, Written};
 ghost use Rattle.messages.specs.Write.{Writes};
 ghost use Rattle.messages.specs.Reason.{ofCode};
 
-pub fn unbound_parameter(message: &mut [u8], owner: &[u8], name: &[u8]) -> usize
-    ensures { λ r. ⌜ Written (now (message .entry)) (now (message .exit)) r (unboundParameter (now (owner .entry)) (now (name .entry))) ⌝ }
+pub fn unbound_parameter(message: &mut [u8], s: &[u8], l: Layout, owner: Name, name: Name) -> usize
+    ensures { λ r. ⌜ Written (now (message .entry)) (now (message .exit)) r (unboundParameter (nameAt (now (s .entry)) l owner) (nameAt (now (s .entry)) l name)) ⌝ }
 {
     let a = around(
         message,
         b"unbound macro parameter `?",
+        s,
+        l,
         name,
         b"` in body of `",
     );
-    named(message, a, owner, b"`")
+    named(message, a, s, l, owner, b"`")
 }
 
 // The macro's name and the parameter's, and how it is used.
-fn parameter_use(message: &mut [u8], owner: &[u8], name: &[u8], says: &[u8]) -> usize
-    ensures { λ r. ⌜ Writes (utf8 "macro `" ∷ now (owner .entry) ∷ utf8 "` parameter `?" ∷ now (name .entry) ∷ now (says .entry) ∷ []) (messageIn (now (message .entry)) 0) (messageIn (now (message .exit)) r) ⌝ }
+fn parameter_use(
+    message: &mut [u8],
+    s: &[u8],
+    l: Layout,
+    owner: Name,
+    name: Name,
+    says: &[u8],
+) -> usize
+    ensures { λ r. ⌜ Writes (utf8 "macro `" ∷ nameAt (now (s .entry)) l owner ∷ utf8 "` parameter `?" ∷ nameAt (now (s .entry)) l name ∷ now (says .entry) ∷ []) (messageIn (now (message .entry)) 0) (messageIn (now (message .exit)) r) ⌝ }
 {
-    let a = around(message, b"macro `", owner, b"` parameter `?");
-    named(message, a, name, says)
+    let a = around(message, b"macro `", s, l, owner, b"` parameter `?");
+    named(message, a, s, l, name, says)
 }
 
-pub fn not_a_condition(message: &mut [u8], owner: &[u8], name: &[u8]) -> usize
-    ensures { λ r. ⌜ Written (now (message .entry)) (now (message .exit)) r (notACondition (now (owner .entry)) (now (name .entry))) ⌝ }
+pub fn not_a_condition(message: &mut [u8], s: &[u8], l: Layout, owner: Name, name: Name) -> usize
+    ensures { λ r. ⌜ Written (now (message .entry)) (now (message .exit)) r (notACondition (nameAt (now (s .entry)) l owner) (nameAt (now (s .entry)) l name)) ⌝ }
 {
     parameter_use(
         message,
+        s,
+        l,
         owner,
         name,
         b"` is used in a condition position, so the call-site argument must be a temporal condition (got a different shape)",
     )
 }
 
-pub fn binder_as_condition(message: &mut [u8], name: &[u8]) -> usize
-    ensures { λ r. ⌜ Written (now (message .entry)) (now (message .exit)) r (binderAsCondition (now (name .entry))) ⌝ }
+pub fn binder_as_condition(message: &mut [u8], s: &[u8], l: Layout, name: Name) -> usize
+    ensures { λ r. ⌜ Written (now (message .entry)) (now (message .exit)) r (binderAsCondition (nameAt (now (s .entry)) l name)) ⌝ }
 {
     around(
         message,
         b"macro binder `$",
+        s,
+        l,
         name,
         b"` used as a whole condition has no meaning",
     )
 }
 
-pub fn not_an_interval(message: &mut [u8], owner: &[u8], name: &[u8]) -> usize
-    ensures { λ r. ⌜ Written (now (message .entry)) (now (message .exit)) r (notAnInterval (now (owner .entry)) (now (name .entry))) ⌝ }
+pub fn not_an_interval(message: &mut [u8], s: &[u8], l: Layout, owner: Name, name: Name) -> usize
+    ensures { λ r. ⌜ Written (now (message .entry)) (now (message .exit)) r (notAnInterval (nameAt (now (s .entry)) l owner) (nameAt (now (s .entry)) l name)) ⌝ }
 {
     parameter_use(
         message,
+        s,
+        l,
         owner,
         name,
         b"` is used in a `within` position; the call-site argument must be an interval literal `<n><unit>` (e.g. `1h`)",
     )
 }
 
-pub fn not_a_term(message: &mut [u8], owner: &[u8], name: &[u8]) -> usize
-    ensures { λ r. ⌜ Written (now (message .entry)) (now (message .exit)) r (notATerm (now (owner .entry)) (now (name .entry))) ⌝ }
+pub fn not_a_term(message: &mut [u8], s: &[u8], l: Layout, owner: Name, name: Name) -> usize
+    ensures { λ r. ⌜ Written (now (message .entry)) (now (message .exit)) r (notATerm (nameAt (now (s .entry)) l owner) (nameAt (now (s .entry)) l name)) ⌝ }
 {
     parameter_use(
         message,
+        s,
+        l,
         owner,
         name,
         b"` used in a term position; the call-site argument has the wrong shape",
     )
 }
 
-pub fn not_an_identifier(message: &mut [u8], owner: &[u8], name: &[u8]) -> usize
-    ensures { λ r. ⌜ Written (now (message .entry)) (now (message .exit)) r (notAnIdentifier (now (owner .entry)) (now (name .entry))) ⌝ }
+pub fn not_an_identifier(message: &mut [u8], s: &[u8], l: Layout, owner: Name, name: Name) -> usize
+    ensures { λ r. ⌜ Written (now (message .entry)) (now (message .exit)) r (notAnIdentifier (nameAt (now (s .entry)) l owner) (nameAt (now (s .entry)) l name)) ⌝ }
 {
     parameter_use(
         message,
+        s,
+        l,
         owner,
         name,
         b"` is used in a binder position, so the call-site argument must be a single identifier",

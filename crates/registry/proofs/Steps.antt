@@ -61,7 +61,7 @@ index-start s l p table n room = ap (λ (k : ℕ). defsAt s l n k p) (sub-zero r
 
 -- the places that are written, and what is left of the index
 module _ (s : List ℕ) (l : Layout) (p : Place) (table : List ℕ) (n left room : ℕ) {whole : List Place}
-  (inv : placesIn table n ++ defsAt s l left (room - n) p ≡ whole) where
+    (inv : placesIn table n ++ defsAt s l left (room - n) p ≡ whole) where
   pub index-done : left ≤ 0 → placesIn table n ≡ whole
   index-done h =
       sym (append-nil (placesIn table n)) ∙ sym (ap (λ (ps : List Place). placesIn table n ++ ps) (none-wanted s l p left (room - n) h)) ∙ inv
@@ -72,7 +72,7 @@ module _ (s : List ℕ) (l : Layout) (p : Place) (table : List ℕ) (n left room
       ∙ sym (ap (λ (ps : List Place). placesIn table n ++ ps) (none-held s l p left (room - n) (omega arith))) ∙ inv
 
   module _ {table′ : List ℕ} {x : Skipped} (h : 0 < left) (k : n < room) (fits : 2 * n + 2 ≤ length table)
-    (w : table′ ≡ sets table (2 * n) (p .at ∷ p .text ∷ [])) (e : x ≡ skipAt s l p 14) where
+      (w : table′ ≡ sets table (2 * n) (p .at ∷ p .text ∷ [])) (e : x ≡ skipAt s l p 14) where
     written : placesIn table′ (n + 1) ≡ placesIn table n ++ p ∷ []
     written = ap (placesIn table′) (add-one n) ∙ ap (λ (t : List ℕ). placesIn t (suc n)) w ∙ place-written n table p fits
 
@@ -195,7 +195,7 @@ module _ (s : List ℕ) (l : Layout) (seen : List Place) (p : Place) {x : Headin
 -- ------------------------------------------------------------------ the definitions one by one
 
 module _ (s : List ℕ) (l : Layout) (places : List ℕ) (i : ℕ) (rest : List ℕ) (count : ℕ) {v : Verdict}
-  (inv : buildFromAt s l (placesIn places i) (placesIn rest (count - i)) ≡ v) where
+    (inv : buildFromAt s l (placesIn places i) (placesIn rest (count - i)) ≡ v) where
   pub build-done : count ≤ i → Passes ≡ v
   unfolding buildFromAt
   build-done h = rw (no-places rest {n = count - i} (omega arith)) at inv
@@ -220,7 +220,7 @@ module _ (s : List ℕ) (l : Layout) (places : List ℕ) (i : ℕ) (rest : List 
     build-more r d fits =
         let c : count - (i + 1) ≡ count - i - 1 = omega arith in
         let one : placesIn places (i + 1) ≡ placesIn places i ++ firstPlace rest ∷ [] =
-            ap (placesIn places) (add-one i) ∙ place-read i places fits ∙ ap (λ (t : List ℕ). placesIn places i ++ firstPlace t ∷ []) (sym d) in
+        ap (placesIn places) (add-one i) ∙ place-read i places fits ∙ ap (λ (t : List ℕ). placesIn places i ++ firstPlace t ∷ []) (sym d) in
         rw (rest-behind rest, c, one) (rw r at onward)
 
 pub build-start : (s : List ℕ) (l : Layout) (places : List ℕ) (count : ℕ)

@@ -22,7 +22,8 @@ use Rattle.tape.specs.Accept.{judged, acceptIn, afterOpen, acceptOf, ans
 use Rattle.tape.specs.Header.{entriesOf, sizeOf}
 use Rattle.tape.specs.Layouts.{tapeLayout, entriesAt}
 use Rattle.tape.specs.Pick.{pick}
-use Rattle.tape.specs.Scan.{wait, scanOf, starts, scanAt}
+use Rattle.grammar.specs.Waits.{wait}
+use Rattle.tape.specs.Scan.{scanOf, starts, scanAt}
 use Rattle.tape.specs.declared.header.Opened.{Opened}
 use Rattle.tape.specs.declared.header.Opened.the-variants.{Tape, Refused}
 use Rattle.tape.specs.declared.layout.Layout.{Layout}

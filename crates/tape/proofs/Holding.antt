@@ -7,7 +7,7 @@ use lib.ListN.{length}
 use lib.Dec.{T, leb, leb→le, le→leb, ltb→lt, lt→ltb}
 use Rattle.tape.specs.Layouts.{Held, holds}
 use Rattle.tape.specs.Scan.{starts}
-use Rattle.tape.specs.Stack.{Starts}
+use Rattle.tape.specs.Turn.{Starts}
 use Rattle.tape.specs.declared.layout.Place.{Place}
 use Rattle.tape.specs.declared.layout.Layout.{Layout}
 use Rattle.tape.proofs.Tests.{and-left, and-right, and-both}

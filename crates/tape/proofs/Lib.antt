@@ -2,11 +2,8 @@ pub mod Items
 pub mod Rows
 pub mod Located
 pub mod Placed
-pub mod Table
 pub mod Tests
 pub mod Holding
-pub mod Cells
-pub mod Words
 pub mod Parts
 pub mod Turns
 pub mod Passing

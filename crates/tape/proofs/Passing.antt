@@ -16,9 +16,10 @@ use Rattle.format.specs.Tape.{isText, textWidth, longestText, shortTexts}
 use Rattle.format.proofs.All.{all-nil, all-cons, all-append}
 use Rattle.format.proofs.Encodes.{WellTexted}
 use Rattle.format.proofs.Stands.{text-append}
-use Rattle.tape.specs.Grammar.{Follows, once, each, sortsOf, inSort, rowAt, parameters}
+use Rattle.grammar.specs.Grammar.{Follows, once, each, sortsOf, inSort, rowAt, parameters}
 use Rattle.tape.specs.Layouts.{headOf}
-use Rattle.tape.specs.Scan.{Wait, wait, waits, valued, counted, accepts, deeper, enclosed, exceeds, scanOf}
+use Rattle.grammar.specs.Waits.{Wait, wait, waits, valued, counted, accepts, deeper, enclosed, exceeds}
+use Rattle.tape.specs.Scan.{scanOf}
 use Rattle.tape.proofs.Tests.{and-left, and-right, and-both, is-true, from-true, same-test}
 
 -- ------------------------------------------------------------------ what a test reports

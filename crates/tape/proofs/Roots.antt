@@ -229,3 +229,13 @@ bytes-all (b ∷ s) h = (h 0, bytes-all s (λ i. h (suc i)))
 pub nesting-64 : (nodes calls : ℕ) → T (fitsDepths nodes calls) → nodes ≤ 64
 unfolding fitsDepths
 nesting-64 nodes calls t = leb→le nodes 64 (and-left (leb nodes 64) _ t)
+
+-- the parameters that a definition's limits leave
+pub few-params : (def : MacroDef) → T (smallBody def) → length (def .params) ≤ 16
+unfolding smallBody
+few-params def t = leb→le (length (def .params)) 16 (and-left (leb (length (def .params)) 16) _ t)
+
+-- the nesting that they leave
+pub small-nesting : (def : MacroDef) → T (smallBody def) → deepBody isNode (def .body) ≤ 64
+unfolding smallBody
+small-nesting def t = nesting-64 (deepBody isNode (def .body)) (deepBody isCall (def .body)) (and-right (leb (length (def .params)) 16) _ t)

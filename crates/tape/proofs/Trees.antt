@@ -33,7 +33,7 @@ use Rattle.format.specs.Flat.{flatTexts, flatUnit, flatInterval, flatWithin, fl
 use Rattle.format.specs.Limits.{isNode, isCall, weigh, deepCondition, deepTerm, deepAgg, deepCall, deepArg, deepArgs, deepFields, deepTerms, deepBody}
 use Rattle.format.specs.Macro.{isCode}
 use Rattle.format.specs.Tape.{isText, textWidth}
-use Rattle.tape.specs.Scan.{valued}
+use Rattle.grammar.specs.Waits.{valued}
 use Rattle.tape.proofs.Passing.{not-ltb, Passes, none, _then_, _before_, node, tip, plain}
 
 -- to unfold this is to unfold what decides an entry of a known code

@@ -8,18 +8,19 @@ use native.Mathlib.Omega.{arith}
 use lib.ListN.{length, getD, drop, drop-of-length-le}
 use lib.Dec.{leb, leb→le}
 use Rattle.format.specs.Entry.{Entry}
-use Rattle.tape.specs.Grammar.{Follows, inSort, sortsOf, rowAt}
+use Rattle.grammar.specs.Grammar.{Follows, inSort, sortsOf, rowAt}
 use Rattle.tape.specs.Layouts.{headAt, entriesAt, widthAt}
 use Rattle.tape.specs.Pick.{pick}
-use Rattle.tape.specs.Scan.{wait, waits, valued, counted, fits, deeper, enclosed, exceeds, scanOf}
-use Rattle.tape.specs.Stack.{followsOf, IsRow, cellOf, waitsOf, stackOf}
-use Rattle.tape.specs.declared.grammar.Row.{Row as RowWord}
+use Rattle.grammar.specs.Waits.{wait, waits, valued, counted, fits, deeper, enclosed, exceeds}
+use Rattle.tape.specs.Scan.{scanOf}
+use Rattle.grammar.specs.Stack.{followsOf, IsRow, cellOf, waitsOf, stackOf}
+use Rattle.grammar.specs.declared.codes.Row.{Row as RowWord}
 use Rattle.tape.specs.declared.layout.Layout.{Layout}
-use Rattle.tape.specs.declared.scan.Head.{Head}
+use Rattle.grammar.specs.declared.entry.Head.{Head}
 use Rattle.tape.specs.declared.scan.Scanned.{Scanned}
 use Rattle.tape.specs.declared.scan.Scanned.the-variants.{Ends, Malformed}
-use Rattle.tape.specs.declared.stack.Cell.{Cell}
-use Rattle.tape.proofs.Cells.{top-cell, first-wait}
+use Rattle.grammar.specs.declared.stack.Cell.{Cell}
+use Rattle.grammar.proofs.Cells.{top-cell, first-wait}
 use Rattle.tape.proofs.Tests.{and-left, and-right, from-true}
 
 pub length-entries : (s : List ℕ) (l : Layout) (at txt n : ℕ) → length (entriesAt s l at txt n) ≡ n

@@ -37,12 +37,13 @@ use Rattle.format.specs.Ast.{
 use Rattle.format.specs.Flat.{flatTexts, flatInterval, flatWithin, flatSlot, flatType, flatBinder, flatBinders, flatSigil, flatCmp, flatArith, flatBool, lengthTerms, lengthFields, lengthArgs, flatCondition, flatTerm, flatAgg, flatCall, flatArg, flatArgs, flatFields, flatTerms, flatParams, flatBody, flatDef, flatDefs, flatRegistry, openFlat}
 use Rattle.format.specs.Macro.{isCode}
 use Rattle.format.specs.Tape.{isText, textWidth}
-use Rattle.tape.specs.Grammar.{sorts, noSort, inSort, sortsOf, rowAt}
+use Rattle.grammar.specs.Grammar.{sorts, noSort, inSort, sortsOf, rowAt}
 use Rattle.format.proofs.All.{all-cons}
 use Rattle.format.proofs.Encodes.{WellTexted}
 use Rattle.tape.specs.Layouts.{headOf}
 use Rattle.tape.specs.Pick.{pick}
-use Rattle.tape.specs.Scan.{Wait, waits, valued, accepts, deeper, enclosed, exceeds, below, scanOf}
+use Rattle.grammar.specs.Waits.{Wait, waits, valued, accepts, deeper, enclosed, exceeds, below}
+use Rattle.tape.specs.Scan.{scanOf}
 use Rattle.tape.specs.declared.layout.Place.{Place}
 use Rattle.tape.specs.declared.scan.Scanned.{Scanned}
 use Rattle.tape.specs.declared.scan.Scanned.the-variants.{Ends, Malformed}

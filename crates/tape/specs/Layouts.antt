@@ -11,7 +11,7 @@ use Rattle.format.specs.Stands.{part}
 use Rattle.format.specs.Tape.{fromLe, isText, textWidth}
 use Rattle.tape.specs.Pick.{pick}
 use Rattle.tape.specs.declared.layout.Layout.{Layout}
-use Rattle.tape.specs.declared.scan.Head.{Head}
+use Rattle.grammar.specs.declared.entry.Head.{Head}
 
 abbrev pub layout : ℕ → ℕ → ℕ → ℕ → ℕ → Layout
 layout codes values text entries size =

@@ -1,7 +1,3 @@
 -- One of two, by a test.
 -- Assumes nothing.
-use mathlib.Core.Bool.{Bool, true, false}
-
-abbrev pub pick : {A : Type 0} → Bool → A → A → A
-pick true a b = a
-pick false a b = b
+pub use Rattle.grammar.specs.Pick.{pick}

@@ -1,12 +1,12 @@
 // Node reads: what stands at a place of a tape, with the next place, or a refusal. "Next" is behind the node's own entries: behind
 // the whole of a term that has no terms or conditions in it, and else where its first part stands. Where nothing fits, which no
 // accepted tape shows, the refusal is 2. A match on the code has a row a code, as document 01's table has.
-use crate::kind::text_width;
 use crate::layout::Layout;
 use crate::layout::Place;
 use crate::layout::code_at;
 use crate::layout::value_at;
 use crate::scan::Skipped;
+use grammar::kind::text_width;
 ghost use mathlib.Core.Path.{_≡_};
 ghost use Rattle.definition.specs.Text.{eqText};
 ghost use Rattle.tape.specs.Node.{spanOf, refusalOf, malformed, hasEntry, hasText, entryAt, expectAt, pastTextsAt, pastHeadingAt, pastTypeAt, conditionAt, predicateAt, comparisonAt, refineAt, sigilAt, named, termAt, pathAt, aggAt, slotAt, withinAt, headingAt, argumentAt, pastParamsAt, bodyAt, nameAt};
@@ -369,22 +369,22 @@ pub fn read_term(s: &[u8], l: Layout, p: Place) -> TermRead
     let EntryRead::Entry(code, value, next) = entry(s, l, p) else {
         return TermRead::Refused(malformed());
     };
-    let plain = TermRead::Node(TermNode::Plain, next);
+    let name = named(p, value);
     match code {
         20 => read_path(s, l, next, 2),
-        21 => plain,
-        22 => plain,
-        23 => plain,
-        24 => plain,
+        21 => TermRead::Node(TermNode::Plain, next),
+        22 => TermRead::Node(TermNode::Plain, next),
+        23 => TermRead::Node(TermNode::Plain, next),
+        24 => TermRead::Node(TermNode::Plain, next),
         25 => read_path(s, l, next, value),
         26 => read_path(s, l, next, value),
-        27 => TermRead::Node(TermNode::Var(named(p, value)), next),
-        28 => plain,
+        27 => TermRead::Node(TermNode::Var(name), next),
+        28 => TermRead::Node(TermNode::Plain, next),
         29 => TermRead::Node(TermNode::Array(value), next),
         30 => TermRead::Node(TermNode::Agg, next),
         31 => TermRead::Node(TermNode::Arith, next),
-        32 => TermRead::Node(TermNode::ParamRef(named(p, value)), next),
-        33 => TermRead::Node(TermNode::BinderRef(named(p, value)), next),
+        32 => TermRead::Node(TermNode::ParamRef(name), next),
+        33 => TermRead::Node(TermNode::BinderRef(name), next),
         _ => TermRead::Refused(malformed()),
     }
 }
@@ -434,13 +434,13 @@ pub fn read_within(s: &[u8], l: Layout, p: Place) -> WithinRead
     let EntryRead::Entry(code, value, next) = entry(s, l, p) else {
         return WithinRead::Refused(malformed());
     };
-    let concrete = WithinRead::Node(WithinNode::Concrete, next);
+    let name = named(p, value);
     match code {
-        48 => concrete,
-        49 => concrete,
-        50 => concrete,
-        51 => concrete,
-        52 => WithinRead::Node(WithinNode::ParamRef(named(p, value)), next),
+        48 => WithinRead::Node(WithinNode::Concrete, next),
+        49 => WithinRead::Node(WithinNode::Concrete, next),
+        50 => WithinRead::Node(WithinNode::Concrete, next),
+        51 => WithinRead::Node(WithinNode::Concrete, next),
+        52 => WithinRead::Node(WithinNode::ParamRef(name), next),
         _ => WithinRead::Refused(malformed()),
     }
 }

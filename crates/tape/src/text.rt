@@ -1,9 +1,9 @@
 // The text section, and the number of nodes.
-use crate::grammar::both;
-use crate::kind::is_node;
 use crate::layout::Layout;
 use crate::layout::code_at;
 use crate::layout::holds;
+use grammar::codes::both;
+use grammar::kind::is_node;
 ghost use mathlib.Core.Path.{_≡_};
 ghost use Prim.Native.Nat.{_+_, _≤_};
 ghost use lib.ListN.{length, drop};

@@ -31,10 +31,11 @@ returns-2 c =
 loop-again : tie.Need-loop-again Inv-loop μ-loop
 loop-again c =
     let at = c .before .before .before .before .before .before .before .loop in
-    let places = c .before .before .before .before .before .before .before .before .before .before .args .places .now in
-    (build-more _ _ _ _ _ _ (at .inv .0) (c .before .before .before .before .before .before .loop-test .taken) (omega arith) (c .before .before .before .before .first-place .ensures)
-    (c .before .before .before .check-name .ensures) (c .before .enum-told .given .1) (at .inv .1) (table-room places (at .i) (at .inv .1) (omega arith)),
-    rest-next places _ (at .i) (at .inv .1))
+    let places = c .before .before .before .before .before .before .before .before .before .before .args .places .now in (
+      build-more _ _ _ _ _ _ (at .inv .0) (c .before .before .before .before .before .before .loop-test .taken) (omega arith) (c .before .before .before .before .first-place .ensures)
+          (c .before .before .before .check-name .ensures) (c .before .enum-told .given .1) (at .inv .1) (table-room places (at .i) (at .inv .1) (omega arith)),
+      rest-next places _ (at .i) (at .inv .1),
+    )
 
 returns-3 : tie.Need-returns-3 Inv-loop μ-loop
 returns-3 c = build-done _ _ _ _ _ _ (c .before .loop .inv .0) (c .loop-test .left)

@@ -14,11 +14,10 @@ use Rattle.messages.proofs.body.undeclared_parameter.Tie as tie
 
 returns : tie.Need-returns
 unfolding openText openMessages flatten
-returns c = whole (c .before .before .before .before .before .before .around .ensures then c .before .before .params-above .ensures) (rw (c .before .before .before .before .before .before .before .before .name-at .ensures, list-all (namesAt (now (c .before .before .before .before .before .before .before .before .before .before .before .before .before .args .s)) (c .before .before .before .before .before .before .before .before .before .before .before .before .before .args .l) (c .before .before .before .before .before .before .before .before .before .before .before .before .before .args .params) (c .before .before .before .before .before .before .before .before .before .before .before .before .before .args .count))) refl)
+returns c = whole (c .before .before .before .before .before .before .around .ensures then c .before .before .params-above .ensures) (rw (list-all (namesAt (now (c .before .before .before .before .before .before .before .before .before .before .before .before .args .s)) (c .before .before .before .before .before .before .before .before .before .before .before .before .args .l) (c .before .before .before .before .before .before .before .before .before .before .before .before .args .params) (c .before .before .before .before .before .before .before .before .before .before .before .before .args .count))) refl)
 
 pub undeclared-parameter-spec : {M : Type 1} → statement M
 undeclared-parameter-spec =
     tie.close
     (tie.spec
-    (λ c. search needs) (λ c κs. search needs) (λ c. search needs) (λ c κs. search needs) (λ c κs. search needs)
-    (λ c. search needs) returns)
+    (λ c. search needs) (λ c. search needs) (λ c κs. search needs) (λ c κs. search needs) (λ c. search needs) returns)

@@ -1,12 +1,12 @@
 -- `messages::pieces::named` meets its contract.
 -- Assumes nothing.
 use borrow.Author.Needs.{needs}
-use Rattle.messages.proofs.Writing.{piece, _then_}
+use Rattle.messages.proofs.Writing.{piece, piece-of, _then_}
 use Rattle.messages.proofs.pieces.named.Statement.{statement}
 use Rattle.messages.proofs.pieces.named.Tie as tie
 
 returns : tie.Need-returns
-returns c = piece (c .before .before .before .before .before .before .write-at .ensures) then piece (c .before .before .write-at2 .ensures)
+returns c = piece-of (c .before .before .before .before .before .before .before .name-at .ensures) (c .before .before .before .before .before .before .write-at .ensures) then piece (c .before .before .write-at2 .ensures)
 
 pub named-spec : {M : Type 1} → statement M
-named-spec = tie.close (tie.spec (λ c κs. search needs) (λ c κs. search needs) (λ c. search needs) returns)
+named-spec = tie.close (tie.spec (λ c κs. search needs) (λ c κs. search needs) (λ c κs. search needs) (λ c. search needs) returns)

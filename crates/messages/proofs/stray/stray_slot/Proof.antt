@@ -5,6 +5,7 @@ use denote.Ref.{now}
 use borrow.Author.Needs.{needs}
 use Rattle.definition.specs.Messages.{openMessages}
 use Rattle.definition.specs.Text.{openText}
+use Rattle.tape.specs.Node.{nameAt}
 use Rattle.messages.specs.Reason.{sigilOf, strayPieces}
 use Rattle.messages.proofs.Strays.{stray-slot}
 use Rattle.messages.proofs.Writing.{whole}
@@ -13,7 +14,7 @@ use Rattle.messages.proofs.stray.stray_slot.Tie as tie
 
 returns : tie.Need-returns
 unfolding openText openMessages flatten strayPieces
-returns c = whole (c .before .before .stray .ensures) (stray-slot (sigilOf (c .before .before .before .before .before .before .before .args .sigil)) (now (c .before .before .before .before .before .before .before .args .name)))
+returns c = whole (c .before .before .stray .ensures) (stray-slot (sigilOf (c .before .before .before .before .before .before .before .args .sigil)) (nameAt (now (c .before .before .before .before .before .before .before .args .s)) (c .before .before .before .before .before .before .before .args .l) (c .before .before .before .before .before .before .before .args .name)))
 
 pub stray-slot-spec : {M : Type 1} → statement M
 stray-slot-spec = tie.close (tie.spec (λ c. search needs) (λ c κs. search needs) (λ c. search needs) returns)

@@ -7,8 +7,10 @@ use mathlib.Core.List.{List, [], _∷_, _++_}
 use borrow.Author.Tests.{lt-ltb}
 use lib.ListN.{length, drop-of-length-le}
 use Rattle.tape.specs.Layouts.{entriesAt}
-use Rattle.tape.specs.Scan.{Wait, wait, scanOf, scanFrom}
-use Rattle.tape.specs.Stack.{cell, stackOf, Turned, waitsOf}
+use Rattle.grammar.specs.Waits.{Wait, wait}
+use Rattle.tape.specs.Scan.{scanOf, scanFrom}
+use Rattle.grammar.specs.Stack.{cell, stackOf, waitsOf}
+use Rattle.tape.specs.Turn.{Turned}
 use Rattle.tape.specs.declared.scan.Turn.{Turn}
 use Rattle.tape.proofs.Turns.{ended, used-up}
 use borrow.Author.Needs.{needs}
@@ -18,9 +20,9 @@ use Rattle.tape.proofs.scan.run.Statement.{statement}
 use Rattle.tape.proofs.scan.run.Tie as tie
 use Rattle.tape.proofs.scan.run.Reads as reads
 use Rattle.tape.proofs.scan.run.Lts as lts
-use Rattle.tape.proofs.grammar.either.Reads as either-reads
+use Rattle.grammar.proofs.codes.either.Reads as either-reads
 use Rattle.tape.proofs.scan.take_entry.Reads as take-entry-reads
-use Rattle.tape.proofs.stack.put.Reads as put-reads
+use Rattle.grammar.proofs.stack.put.Reads as put-reads
 
 -- the stack with the root's sort alone
 start : (stack : List ℕ) (sort : ℕ) → length stack ≡ 1025 → sort < 25

@@ -3,7 +3,7 @@
 use mathlib.Core.Path.{sym, _∙_}
 use Prim.Native.Nat.{_-_, _%_}
 use borrow.Author.Tests.{not-true, not-false}
-use Rattle.tape.specs.Stack.{followsOf}
+use Rattle.grammar.specs.Stack.{followsOf}
 use Rattle.tape.proofs.Turns.{let-in, refused, goes-on}
 use borrow.Author.Needs.{needs}
 use native.Mathlib.Omega.{arith}
@@ -12,12 +12,12 @@ use Rattle.tape.proofs.scan.take_entry.Statement.{statement}
 use Rattle.tape.proofs.scan.take_entry.Tie as tie
 use Rattle.tape.proofs.scan.take_entry.Reads as reads
 use Rattle.tape.proofs.scan.take_entry.Lts as lts
-use Rattle.tape.proofs.grammar.row_of.Reads as row-of-reads
-use Rattle.tape.proofs.scan.accepts.Reads as accepts-reads
-use Rattle.tape.proofs.scan.advance.Reads as advance-reads
-use Rattle.tape.proofs.scan.exceeds.Reads as exceeds-reads
+use Rattle.grammar.proofs.codes.row_of.Reads as row-of-reads
+use Rattle.grammar.proofs.entry.accepts.Reads as accepts-reads
+use Rattle.grammar.proofs.entry.advance.Reads as advance-reads
+use Rattle.grammar.proofs.entry.exceeds.Reads as exceeds-reads
 use Rattle.tape.proofs.scan.head_at.Reads as head-at-reads
-use Rattle.tape.proofs.stack.unpack.Reads as unpack-reads
+use Rattle.grammar.proofs.stack.unpack.Reads as unpack-reads
 
 returns : tie.Need-returns
 returns c =

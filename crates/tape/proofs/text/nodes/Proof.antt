@@ -14,7 +14,7 @@ use Rattle.tape.proofs.text.nodes.Statement.{statement}
 use Rattle.tape.proofs.text.nodes.Tie as tie
 use Rattle.tape.proofs.text.nodes.Reads as reads
 use Rattle.tape.proofs.text.nodes.Lts as lts
-use Rattle.tape.proofs.kind.is_node.Reads as is-node-reads
+use Rattle.grammar.proofs.kind.is_node.Reads as is-node-reads
 use Rattle.tape.proofs.layout.code_at.Reads as code-at-reads
 
 abbrev Inv-loop : tie.InvT-loop

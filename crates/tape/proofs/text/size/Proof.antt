@@ -12,7 +12,7 @@ use Rattle.tape.proofs.text.size.Statement.{statement}
 use Rattle.tape.proofs.text.size.Tie as tie
 use Rattle.tape.proofs.text.size.Reads as reads
 use Rattle.tape.proofs.text.size.Lts as lts
-use Rattle.tape.proofs.grammar.both.Reads as both-reads
+use Rattle.grammar.proofs.codes.both.Reads as both-reads
 use Rattle.tape.proofs.layout.holds.Reads as holds-reads
 use Rattle.tape.proofs.text.nodes.Reads as nodes-reads
 

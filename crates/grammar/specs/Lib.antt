@@ -1,0 +1,6 @@
+-- What the contracts of the crate cite.
+pub mod Pick
+pub mod Kind
+pub mod Grammar
+pub mod Waits
+pub mod Stack

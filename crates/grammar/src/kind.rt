@@ -1,0 +1,46 @@
+// What the value of an entry is, by its code.
+ghost use mathlib.Core.Path.{_≡_};
+ghost use Rattle.format.specs.Limits.{isNode};
+ghost use Rattle.format.specs.Tape.{isText, textWidth};
+ghost use Rattle.grammar.specs.Kind.{kindOf};
+
+pub enum ValueKind {
+    Text,
+    Span,
+    Count,
+    Plain,
+}
+
+// Document 01: "An entry with text has its length as value".
+pub fn kind_of(code: u8) -> ValueKind
+    ensures { λ r. ⌜ r ≡ kindOf code ⌝ }
+{
+    match code {
+        22..=23 | 27 | 32..=33 | 40 | 43..=45 | 52 | 58..=59 => ValueKind::Text,
+        1..=13 | 34..=36 | 42 | 54 | 60 => ValueKind::Span,
+        25..=26 | 29 | 41 | 47 => ValueKind::Count,
+        _ => ValueKind::Plain,
+    }
+}
+
+// How many bytes of text an entry takes.
+pub fn text_width(code: u8, value: u64) -> u64
+    ensures { λ r. ⌜ r ≡ textWidth (isText code) value ⌝ }
+{
+    match kind_of(code) {
+        ValueKind::Text => value,
+        ValueKind::Span => 0,
+        ValueKind::Count => 0,
+        ValueKind::Plain => 0,
+    }
+}
+
+// Whether an entry is a condition, a term or an aggregate.
+pub fn is_node(code: u8) -> bool
+    ensures { λ r. ⌜ r ≡ isNode code ⌝ }
+{
+    match code {
+        1..=13 | 20..=36 => true,
+        _ => false,
+    }
+}
