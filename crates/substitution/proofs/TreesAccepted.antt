@@ -1,0 +1,109 @@
+-- Two accepted tapes: the substitution comes to the outcome that its definition has.
+-- Assumes nothing.
+use Prim.Native.Nat.{ℕ, _≤_}
+use native.Mathlib.Omega.{arith}
+use mathlib.Core.Path.{_≡_, refl}
+use mathlib.Core.Logic.{_≢_, _⊎_, inl, inr}
+use mathlib.Core.List.{List, []}
+use mathlib.Core.Bool.{Bool, true, false}
+use lib.ListN.{length}
+use borrow.Author.Tests.{not-false}
+use Rattle.format.specs.Ast.{Condition, Term, Call, Tree, MacroBody, MacroDef}
+use Rattle.format.specs.Flat.{lengthArgs, flatCondition, flatTerm, flatTree, flatCall, flatDef}
+use Rattle.format.specs.Limits.{isNode, isCall, deepTree, fitsAll, tooLargeTree}
+use Rattle.format.specs.Tape.{definitionRoot, callRoot}
+use Rattle.definition.specs.Outcome.{Outcome, pure, proceed, openOutcome}
+use Rattle.definition.specs.Substitute.{
+  mapsOf,
+  chargeBody,
+  checkArity,
+  checkLimits,
+  substTemporalCondition,
+  substTemporalTerm,
+  substituteTemporalCondition,
+  substituteTemporalValue,
+  substituteBody,
+  substitute,
+}
+use Rattle.tape.specs.declared.layout.Layout.{Layout}
+use Rattle.tape.specs.declared.layout.Place.{Place}
+use Rattle.tape.proofs.Located.{Inside, accepted-inside}
+use Rattle.tape.proofs.Roots.{Accepted, call-root, definition-root, few-params, small-nesting}
+use Rattle.tape.proofs.Tests.{and-left, is-true, from-true}
+use Rattle.area.specs.Area.{Paper, fitsArea}
+use Rattle.substitution.specs.Output.{World}
+use Rattle.substitution.specs.Parameters.{Tapes}
+use Rattle.substitution.specs.Ends.{Comes}
+use Rattle.substitution.specs.Front.{origin, tapesIn}
+use Rattle.substitution.proofs.TreesGives.{Gives, gives, refuses, AllDone, all-bind, all-map, all-of}
+use Rattle.substitution.proofs.TreesFront.{tapes-cedar, cedar-says, tapes-gives}
+
+-- ------------------------------------------------------------------ a result fits
+
+pub small-fits : (t : Tree) → tooLargeTree t ≡ false → fitsArea (flatTree t) ≡ true
+unfolding tooLargeTree fitsAll
+small-fits t e = is-true (and-left (fitsArea (flatTree t)) _
+    (from-true (not-false (fitsAll (flatTree t) (deepTree isNode t) (deepTree isCall t)) e)))
+
+pub limited : {A : Type 0} (Q : A → Type 0) (large : Bool) (span k : ℕ) (a : A) → (large ≡ false → Q a)
+    → AllDone Q (proceed (checkLimits large span k) (λ u. pure a))
+unfolding checkLimits openOutcome AllDone
+limited Q true span k a h = tt
+limited Q false span k a h = h refl
+
+module _ (limit : ℕ) (dm : MacroDef) where
+  abbrev Fits : Tree → Type 0
+  Fits t = fitsArea (flatTree t) ≡ true
+
+  body-fits : (b : MacroBody) (c : Call) → AllDone Fits (substituteBody limit dm b c 0)
+  unfolding substituteBody substituteTemporalCondition substituteTemporalValue openOutcome AllDone flatTree
+  body-fits MacroBody.Cedar (Call.MacroCall span name args) = tt
+  body-fits (MacroBody.TemporalCondition b) (Call.MacroCall span name args) =
+      let maps = mapsOf dm limit (Call.MacroCall span name args) in
+      all-bind Fits _ (checkArity dm (lengthArgs args) span 0) (λ u k.
+      all-bind Fits _ (chargeBody limit (MacroBody.TemporalCondition b) span k) (λ u k₁.
+      all-map (λ (c : Condition). fitsArea (flatCondition c) ≡ true) Fits (λ c. Tree.condition c)
+      (substituteTemporalCondition b maps k₁) (λ c e. e)
+      (all-bind (λ (c : Condition). fitsArea (flatCondition c) ≡ true) _ (substTemporalCondition maps b k₁) (λ c k₂.
+      limited (λ (c : Condition). fitsArea (flatCondition c) ≡ true) (tooLargeTree (Tree.condition c)) (maps .callSpan) k₂ c
+      (small-fits (Tree.condition c))))))
+  body-fits (MacroBody.TemporalValue b) (Call.MacroCall span name args) =
+      let maps = mapsOf dm limit (Call.MacroCall span name args) in
+      all-bind Fits _ (checkArity dm (lengthArgs args) span 0) (λ u k.
+      all-bind Fits _ (chargeBody limit (MacroBody.TemporalValue b) span k) (λ u k₁.
+      all-map (λ (t : Term). fitsArea (flatTerm t) ≡ true) Fits (λ t. Tree.term t) (substituteTemporalValue b maps k₁) (λ t e. e)
+      (all-bind (λ (t : Term). fitsArea (flatTerm t) ≡ true) _ (substTemporalTerm maps b (maps .callSpan) k₁) (λ t k₂.
+      limited (λ (t : Term). fitsArea (flatTerm t) ≡ true) (tooLargeTree (Tree.term t)) (maps .callSpan) k₂ t (small-fits (Tree.term t))))))
+
+-- ------------------------------------------------------------------ how a substitution ends
+
+is-cedar : (b : MacroBody) → (b ≡ MacroBody.Cedar) ⊎ (b ≢ MacroBody.Cedar)
+is-cedar MacroBody.Cedar = inl refl
+is-cedar (MacroBody.TemporalCondition c) = inr λ e. let z : _≡_ {A = ℕ} 0 1 = cc in omega arith
+is-cedar (MacroBody.TemporalValue t) = inr λ e. let z : _≡_ {A = ℕ} 0 1 = cc in omega arith
+
+pub substitution-comes : (limit : ℕ) {def call : List ℕ} {l c : Layout} (dm : MacroDef) (cl : Call) → Accepted definitionRoot def l dm
+    → Accepted callRoot call c cl
+    → (bytes : List ℕ) → 12288 ≤ length bytes
+    → let X : World = tapesIn def l call c limit bytes in Comes def l call c (X .walk) (X .bytes) (substitute limit dm cl)
+unfolding definitionRoot callRoot substitute substituteBody Comes openOutcome
+substitution-comes limit {def} {call} {l} {c} dm (Call.MacroCall span name args) h g bytes room = by-kind (is-cedar (dm .body))
+  where
+    d : Inside def l origin (flatDef dm)
+    d = accepted-inside definition-root h
+
+    i : Inside call c origin (flatCall (Call.MacroCall span name args))
+    i = accepted-inside call-root g
+
+    go : {T : Tapes} {P : Paper} {X : World} {end : Place} (o : Outcome Tree) → substitute limit dm (Call.MacroCall span name args) ≡ o
+        → Gives T flatTree P [] X end o → Comes (T .definition) (T .maps .definition) call c (X .walk) (X .bytes) o
+    go o e (gives Q x w v) = rw x (refl, w .out, all-of (Fits limit dm) (body-fits limit dm (dm .body) (Call.MacroCall span name args)) e)
+    go o e (refuses after x tells v) = rw x (refl, tells call c)
+
+    by-kind : (dm .body ≡ MacroBody.Cedar) ⊎ (dm .body ≢ MacroBody.Cedar)
+        → Comes def l call c (tapesIn def l call c limit bytes .walk) (tapesIn def l call c limit bytes .bytes)
+        (substitute limit dm (Call.MacroCall span name args))
+    by-kind (inl e) = rw (tapes-cedar dm span name args limit d i bytes e, e) (refl, cedar-says dm span name args limit d i)
+    by-kind (inr n) =
+        go (substitute limit dm (Call.MacroCall span name args)) refl
+        (tapes-gives dm span name args limit d i n (few-params dm (h .small)) (small-nesting dm (h .small)) bytes room)
