@@ -3,7 +3,7 @@
 mod inputs;
 
 use differential::archive;
-use differential::case::Case;
+use differential::case::{Case, Operation};
 use differential::compare::{self, Lent, Machine};
 use differential::tape::{self, Sort};
 use differential::upstream::{self, End, Reach};
@@ -19,9 +19,15 @@ const ROUND: Duration = Duration::from_millis(10);
 
 fn main() {
     upstream::quiet_panics();
-    let mut machine = archive::linked();
+    let mut machine = archive::linked().filter(|machine| machine.has(Operation::Expand));
+    let args: Vec<String> = std::env::args().skip(1).collect();
+    if let [once, input] = args.as_slice()
+        && once == "once"
+    {
+        return run_once(input.parse().expect("0, 1 or 2"), &mut machine);
+    }
     if machine.is_none() {
-        println!("without an archive: upstream alone");
+        println!("without an archive that expands: upstream alone");
     }
     let head = ["registry", "rule", "result", "trees", "tapes", "archive", "to trees", "to tapes"];
     println!("{:>34}{}", "", head.map(|h| format!("{h:>10}")).concat());
@@ -37,6 +43,16 @@ fn main() {
         println!("{name:>34}{}", line.map(|h| format!("{h:>10}")).concat());
     }
     println!("Times in nanoseconds for one expansion, the least of {ROUNDS} rounds. README.md says what is in each.");
+}
+
+/// One input expanded once by each, for a tool that counts instructions.
+fn run_once(input: usize, machine: &mut Option<Box<dyn Machine>>) {
+    let (name, case) = inputs::all().swap_remove(input);
+    on_trees(&case)(1);
+    if let Some(machine) = machine {
+        on_archive(&case, machine.as_mut())(1);
+    }
+    println!("{name}, once");
 }
 
 /// Both must give the same answer, a success. Entries of the registry, the rule and the result.

@@ -1,4 +1,4 @@
-//! The archive's four functions, if one was linked (see build.rs).
+//! The archive's functions, if one was linked: those of its operations that it has (see build.rs).
 
 use crate::compare::Machine;
 
@@ -20,17 +20,21 @@ mod functions {
     // In C a slice is two parameters, its pointer and its length; the answer is a `&mut [u64; 5]`, the pointer alone.
     #[rustfmt::skip]
     unsafe extern "C" {
+        #[cfg(archive_has = "check")]
         fn neukolja_check(
             definition: *const u8, definition_len: usize, message: *mut u8, message_len: usize, answer: *mut [u64; 5],
         );
+        #[cfg(archive_has = "registry")]
         fn neukolja_registry(
             registry: *const u8, registry_len: usize, message: *mut u8, message_len: usize, answer: *mut [u64; 5],
         );
+        #[cfg(archive_has = "substitute")]
         fn neukolja_substitute(
             definition: *const u8, definition_len: usize, call: *const u8, call_len: usize, limit: u32,
             result: *mut u8, result_len: usize, work: *mut u8, work_len: usize, message: *mut u8, message_len: usize,
             answer: *mut [u64; 5],
         );
+        #[cfg(archive_has = "expand")]
         fn neukolja_expand(
             registry: *const u8, registry_len: usize, condition: *const u8, condition_len: usize, limit: u32,
             result: *mut u8, result_len: usize, work: *mut u8, work_len: usize, message: *mut u8, message_len: usize,
@@ -41,23 +45,40 @@ mod functions {
     pub struct Archive;
 
     impl Machine for Archive {
+        fn has(&self, operation: Operation) -> bool {
+            match operation {
+                Operation::Check => cfg!(archive_has = "check"),
+                Operation::Registry => cfg!(archive_has = "registry"),
+                Operation::Substitute => cfg!(archive_has = "substitute"),
+                Operation::Expand => cfg!(archive_has = "expand"),
+            }
+        }
+
         #[rustfmt::skip]
         fn run(&mut self, case: &Case, lent: Lent) {
+            #[allow(unused_variables)]
             let ((a, b), limit) = ((&case.first, &case.second), case.limit);
+            #[allow(unused_variables)]
             let Lent { result: r, work: w, message: m, answer } = lent;
             // SAFETY: every pointer comes with its length from a slice that outlives the call, and no two overlap.
             unsafe {
                 match case.operation {
+                    #[cfg(archive_has = "check")]
                     Operation::Check => neukolja_check(a.as_ptr(), a.len(), m.as_mut_ptr(), m.len(), answer),
+                    #[cfg(archive_has = "registry")]
                     Operation::Registry => neukolja_registry(a.as_ptr(), a.len(), m.as_mut_ptr(), m.len(), answer),
+                    #[cfg(archive_has = "substitute")]
                     Operation::Substitute => neukolja_substitute(
                         a.as_ptr(), a.len(), b.as_ptr(), b.len(), limit,
                         r.as_mut_ptr(), r.len(), w.as_mut_ptr(), w.len(), m.as_mut_ptr(), m.len(), answer,
                     ),
+                    #[cfg(archive_has = "expand")]
                     Operation::Expand => neukolja_expand(
                         a.as_ptr(), a.len(), b.as_ptr(), b.len(), limit,
                         r.as_mut_ptr(), r.len(), w.as_mut_ptr(), w.len(), m.as_mut_ptr(), m.len(), answer,
                     ),
+                    #[allow(unreachable_patterns)]
+                    _ => unreachable!("the archive has no {}", case.operation.name()),
                 }
             }
         }

@@ -1,4 +1,4 @@
-//! Document 01's fourteen bench cases, and its `e(1, 2)`.
+//! Document 01's fourteen bench cases, its `e(1, 2)`, and the order in a Since.
 
 use crate::case::{Case, Operation};
 use crate::tape::{Node, encode, span};
@@ -100,4 +100,16 @@ pub fn cases() -> Vec<Case> {
         .into_iter()
         .map(|(limit, condition)| Case::on_two_tapes(Operation::Expand, limit, registry.clone(), encode(&condition)))
         .collect()
+}
+
+/// `?a since ?w P{}`: the within is looked at before the left side. In a body that is checked, in one that is substituted, in a rule.
+pub fn orders() -> Vec<Case> {
+    let since = || Node::new(6, 0, vec![sigil(58, "a"), Node::with_text(52, b"w"), p(vec![])]);
+    let body = encode(&definition("o", &[], since()));
+    let o = Node::new(54, span(7, 9), vec![text("o"), list(1, vec![])]);
+    vec![
+        Case::on_one_tape(Operation::Check, body.clone()),
+        Case::on_two_tapes(Operation::Substitute, 100, body, encode(&o)),
+        Case::on_two_tapes(Operation::Expand, 100, encode(&list(1, vec![])), encode(&since())),
+    ]
 }

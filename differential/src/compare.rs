@@ -128,6 +128,11 @@ pub struct Lent<'a> {
 }
 
 pub trait Machine {
+    /// Whether the operation is there to be run.
+    fn has(&self, _: Operation) -> bool {
+        true
+    }
+
     fn run(&mut self, case: &Case, lent: Lent);
 }
 

@@ -8,10 +8,19 @@ use crate::random::Random;
 use crate::tape::{self, LARGEST_CALLS, LARGEST_PARAMETERS, LARGEST_TEXT, Node, UNBOUNDED};
 use crate::trees::{DEPTH, Ground, Macro, Style, Trees};
 
+/// The operation of a case is drawn first.
+fn draw(random: &mut Random) -> Operation {
+    OPERATIONS[random.weighted(&[16, 9, 35, 40])]
+}
+
+pub fn operation(seed: u64, index: u64) -> Operation {
+    draw(&mut Random::of_case(seed, index))
+}
+
 /// The case with this index in the campaign of this seed.
 pub fn case(seed: u64, index: u64) -> Case {
     let random = &mut Random::of_case(seed, index);
-    let operation = OPERATIONS[random.weighted(&[16, 9, 35, 40])];
+    let operation = draw(random);
     let input = match random.weighted(&[79, 11, 10]) {
         0 => input(random, operation),
         1 => at_a_limit(random, operation),

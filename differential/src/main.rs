@@ -1,6 +1,6 @@
 //! The commands. See README.md.
 
-use differential::case::{Answer, Case};
+use differential::case::{Answer, Case, OPERATIONS, Operation};
 use differential::compare::Machine;
 use differential::tally::Tally;
 use differential::tape::{self, Node};
@@ -8,10 +8,10 @@ use differential::{archive, compare, generate, model, places, record, upstream, 
 use std::process::ExitCode;
 
 const USAGE: &str = "differential COMMAND
-  run [--seed N] [--cases N] [--from N]   compare on cases from a seed
-  show [--seed N] [--from N]              print one of them, with its answer
-  replay FILE                             compare on a list of vectors, and with what it expects
-  record FILE [--seed N]                  write the fixed list";
+  run [--seed N] [--cases N] [--from N] [--only OPERATION,..]   compare on cases from a seed
+  show [--seed N] [--from N]   print one of them, with its answer
+  replay FILE                  compare on a list of vectors, and with what it expects
+  record FILE [--seed N]       write the fixed list";
 
 /// After so many differences a campaign ends.
 const ENOUGH: u64 = 20;
@@ -20,8 +20,9 @@ fn main() -> ExitCode {
     upstream::quiet_panics();
     let args: Vec<String> = std::env::args().skip(1).collect();
     let done = match args.first().map(String::as_str) {
-        Some("run") => option(&args, "--seed", 1)
-            .and_then(|seed| Ok(run(seed, option(&args, "--from", 0)?, option(&args, "--cases", 100_000)?))),
+        Some("run") => option(&args, "--seed", 1).and_then(|seed| {
+            Ok(run(seed, option(&args, "--from", 0)?, option(&args, "--cases", 100_000)?, &only(&args)?))
+        }),
         Some("show") => option(&args, "--seed", 1).and_then(|seed| Ok(show(seed, option(&args, "--from", 0)?))),
         Some("replay") if args.len() == 2 => replay(&args[1]),
         Some("record") if args.len() >= 2 => option(&args, "--seed", 1).and_then(|seed| record(&args[1], seed)),
@@ -45,9 +46,23 @@ fn option(args: &[String], name: &str, otherwise: u64) -> Result<u64, String> {
     }
 }
 
+/// The operations behind `--only`, or all.
+fn only(args: &[String]) -> Result<Vec<Operation>, String> {
+    let Some(i) = args.iter().position(|a| a == "--only") else { return Ok(OPERATIONS.to_vec()) };
+    let named = args.get(i + 1).ok_or("operations belong behind --only")?;
+    let find = |name: &str| OPERATIONS.into_iter().find(|o| o.name() == name).ok_or(format!("no operation {name}"));
+    named.split(',').map(find).collect()
+}
+
 fn machine() -> Option<Box<dyn Machine>> {
     let machine = archive::linked();
-    println!("{}", if machine.is_some() { "with the archive" } else { "without an archive: model and upstream alone" });
+    match &machine {
+        None => println!("without an archive: model and upstream alone"),
+        Some(machine) => {
+            let has: Vec<_> = OPERATIONS.into_iter().filter(|o| machine.has(*o)).map(Operation::name).collect();
+            println!("with the archive, which has {}", has.join(", "));
+        }
+    }
     machine
 }
 
@@ -55,29 +70,34 @@ fn machine() -> Option<Box<dyn Machine>> {
 fn compare_all(case: &Case, machine: &mut Option<Box<dyn Machine>>, tally: &mut Tally) -> Result<Answer, String> {
     let (answer, notes, witness) = compare::expected(case)?;
     tally.add(case, &answer, &notes, witness);
-    if let Some(machine) = machine {
+    if let Some(machine) = machine
+        && machine.has(case.operation)
+    {
         compare::judge(machine.as_mut(), case, &answer).map_err(|e| format!("the archive: {e}"))?;
     }
     Ok(answer)
 }
 
-fn run(seed: u64, from: u64, cases: u64) -> bool {
+fn run(seed: u64, from: u64, cases: u64, only: &[Operation]) -> bool {
     let mut machine = machine();
     let mut tally = Tally::default();
-    let (mut ran, mut differences) = (0, 0);
+    let (mut index, mut ran, mut differences) = (from, 0, 0);
     while ran < cases && differences < ENOUGH {
-        let case = generate::case(seed, from + ran);
-        if let Err(difference) = compare_all(&case, &mut machine, &mut tally) {
-            println!("case {}, {}: {difference}", from + ran, case.operation.name());
-            differences += 1;
+        if only.contains(&generate::operation(seed, index)) {
+            let case = generate::case(seed, index);
+            if let Err(difference) = compare_all(&case, &mut machine, &mut tally) {
+                println!("case {index}, {}: {difference}", case.operation.name());
+                differences += 1;
+            }
+            ran += 1;
+            if ran % 100_000 == 0 {
+                eprintln!("{ran} cases");
+            }
         }
-        ran += 1;
-        if ran % 100_000 == 0 {
-            eprintln!("{ran} cases");
-        }
+        index += 1;
     }
     tally.print();
-    for (operation, number) in tally.missing() {
+    for (operation, number) in tally.missing().into_iter().filter(|(operation, _)| only.contains(operation)) {
         println!("{} did not answer {number}", operation.name());
     }
     println!("seed {seed}, {ran} cases from {from}: {differences} differences");

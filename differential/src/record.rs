@@ -23,6 +23,10 @@ enum Shows {
     OneTooMany(String),
     /// Something accepted that stands exactly at a limit.
     AtALimit(&'static str, &'static str),
+    /// A definition that is as deep as may be: the code of its body, and whether there was a success.
+    DeepBody(u8, bool),
+    /// The message of 10, which has the reserved name.
+    Reserved(Vec<u8>),
     /// What each tape is by itself, beside a buffer that is too short: 0, 2 or 3.
     Tapes {
         short: bool,
@@ -96,9 +100,10 @@ impl Candidate {
     }
 }
 
-/// The bench cases, and behind them cases from the seed until everything that any of them shows is shown.
+/// The bench cases and the order in a Since, and behind them cases from the seed until everything that any of them shows is shown.
 pub fn record(seed: u64) -> Result<Vec<(Case, Answer)>, String> {
-    let mut chosen = bench_cases::cases().into_iter().map(Candidate::new).collect::<Result<Vec<_>, _>>()?;
+    let first = bench_cases::cases().into_iter().chain(bench_cases::orders());
+    let mut chosen = first.map(Candidate::new).collect::<Result<Vec<_>, _>>()?;
     let mut left = smallest(seed)?;
     loop {
         let shown: BTreeSet<_> = chosen.iter().flat_map(|c| c.shows.iter().cloned()).collect();
@@ -150,6 +155,9 @@ fn shows(case: &Case, answer: &Answer, notes: &Notes) -> Vec<Shows> {
         for tree in [Some(first), second.as_ref()].into_iter().flatten() {
             all.extend(at_limits(tree));
             tree.visit(&mut |node| {
+                if node.code == 60 && tape::measure(node).nesting == LARGEST.nesting {
+                    all.push(Shows::DeepBody(node.children[2].code, success));
+                }
                 if node.code == 54 && node.children[1].value > LARGEST_PARAMETERS as u64 {
                     all.push(Shows::ManyArguments);
                 }
@@ -168,6 +176,9 @@ fn shows(case: &Case, answer: &Answer, notes: &Notes) -> Vec<Shows> {
         if answer.charged > 0 && answer.charged == u64::from(case.limit) {
             all.push(Shows::WholeBudget);
         }
+    }
+    if answer.number == 10 {
+        all.push(Shows::Reserved(answer.message.clone()));
     }
     if answer.number == 20 {
         let declared = answer.message.iter().rev().take_while(|b| **b != b':').filter(|b| **b == b'?').count();

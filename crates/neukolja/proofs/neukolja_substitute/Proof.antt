@@ -1,0 +1,20 @@
+-- `neukolja::neukolja_substitute` meets its contract.
+-- Assumes nothing.
+use borrow.Author.Needs.{needs}
+use Rattle.neukolja.proofs.Handed.{hands}
+use Rattle.neukolja.proofs.neukolja_substitute.Statement.{statement}
+use Rattle.neukolja.proofs.neukolja_substitute.Tie as tie
+
+returns : tie.Need-returns
+returns c = hands _ _ _ _ _ (c .hand .ensures) (c .before .before .before .before .before .before .before .before .substitute .ensures)
+
+pub neukolja-substitute-spec : {M : Type 1} → statement M
+neukolja-substitute-spec =
+    tie.close
+    (tie.spec
+    (λ c κs. search needs)
+    (λ c κs. search needs)
+    (λ c. search needs)
+    (λ c. search needs)
+    (λ c. search needs)
+    returns)

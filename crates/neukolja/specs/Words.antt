@@ -1,0 +1,25 @@
+-- An answer as the five words that C is handed, and back.
+-- Assumes nothing.
+use Prim.Native.Nat.{ℕ}
+use mathlib.Core.List.{List, [], _∷_}
+use lib.ListN.{getD}
+use Rattle.definition.specs.Answers as definition
+use Rattle.answer.specs.declared.Answer.{Answer}
+
+-- number, start, end, message length, charged
+abbrev pub wordsOf : Answer → List ℕ
+wordsOf r = r .number ∷ r .span .start ∷ r .span .end ∷ r .«message_length» ∷ r .charged ∷ []
+
+-- what C reads from the five words and the three buffers
+abbrev pub handed : (words result work message : List ℕ) → definition.Answer
+handed words result work message =
+    record {
+      number = getD words 0 0;
+      start = getD words 1 0;
+      end = getD words 2 0;
+      messageLength = getD words 3 0;
+      charged = getD words 4 0;
+      result = result;
+      work = work;
+      message = message;
+    }

@@ -1,0 +1,72 @@
+// The functions that C links. A slice is two parameters there, its pointer and its length; `answer` is a pointer to five words.
+use answer::Answer;
+ghost use mathlib.Core.List.{[]};
+ghost use mathlib.Core.Path.{_≡_};
+ghost use lib.ListN.{length};
+ghost use Rattle.definition.specs.Answers.{checkAnswer, registryAnswer, substituteAnswer, expandAnswer};
+ghost use Rattle.substitution.specs.Ends.{buffers};
+ghost use Rattle.neukolja.specs.Words.{wordsOf, handed};
+
+// The answer as five words: number, start, end, message length, charged.
+fn hand(r: Answer, words: &mut [u64; 5])
+    ensures { λ _. ⌜ now (words .exit) ≡ wordsOf r ⌝ }
+{
+    let span = r.span;
+    *words = [
+        r.number as u64,
+        span.start as u64,
+        span.end as u64,
+        r.message_length as u64,
+        r.charged as u64,
+    ];
+}
+
+#[no_mangle]
+pub extern "C" fn neukolja_check(definition: &[u8], message: &mut [u8], answer: &mut [u64; 5])
+    ensures { λ _. ⌜ handed (now (answer .exit)) [] [] (now (message .exit)) ≡ checkAnswer (length (now (message .entry))) (now (definition .entry)) ⌝ }
+{
+    hand(body_check::check(definition, message), answer);
+}
+
+#[no_mangle]
+pub extern "C" fn neukolja_registry(registry: &[u8], message: &mut [u8], answer: &mut [u64; 5])
+    ensures { λ _. ⌜ handed (now (answer .exit)) [] [] (now (message .exit)) ≡ registryAnswer (length (now (message .entry))) (now (registry .entry)) ⌝ }
+{
+    hand(registry::build(registry, message), answer);
+}
+
+#[no_mangle]
+pub extern "C" fn neukolja_substitute<'a>(
+    definition: &'a [u8],
+    call: &'a [u8],
+    limit: u32,
+    result: &mut [u8],
+    work: &mut [u8],
+    message: &mut [u8],
+    answer: &mut [u64; 5],
+)
+    ensures { λ _. ⌜ handed (now (answer .exit)) (now (result .exit)) (now (work .exit)) (now (message .exit)) ≡ substituteAnswer (buffers (length (now (result .entry))) (length (now (work .entry))) (length (now (message .entry)))) limit (now (definition .entry)) (now (call .entry)) ⌝ }
+{
+    hand(
+        substitution::substitute(definition, call, limit, result, work, message),
+        answer,
+    );
+}
+
+#[no_mangle]
+pub extern "C" fn neukolja_expand<'a>(
+    registry: &'a [u8],
+    condition: &'a [u8],
+    limit: u32,
+    result: &mut [u8],
+    work: &mut [u8],
+    message: &mut [u8],
+    answer: &mut [u64; 5],
+)
+    ensures { λ _. ⌜ handed (now (answer .exit)) (now (result .exit)) (now (work .exit)) (now (message .exit)) ≡ expandAnswer (buffers (length (now (result .entry))) (length (now (work .entry))) (length (now (message .entry)))) limit (now (registry .entry)) (now (condition .entry)) ⌝ }
+{
+    hand(
+        expansion::expand(registry, condition, limit, result, work, message),
+        answer,
+    );
+}

@@ -1,0 +1,77 @@
+// A list of vectors, one behind the other. A length has four bytes; what is shorter than its length ends with the list.
+use buffer::read_size;
+use buffer::read_value;
+use tape::part::part_of;
+
+// Where a vector's parts begin, and its kind.
+pub struct Vector {
+    pub kind: usize,
+    pub limit: u32,
+    pub first: usize,
+    pub second: usize,
+    pub sizes: usize,
+    pub numbers: usize,
+    pub result: usize,
+    pub message: usize,
+    pub next: usize,
+}
+
+// The place behind `n` bytes.
+fn past(s: &[u8], at: usize, n: usize) -> usize {
+    if s.len() <= at {
+        return s.len();
+    }
+    if s.len() - at <= n {
+        return s.len();
+    }
+    at + n
+}
+
+// The first vector's place.
+pub fn start(s: &[u8]) -> usize {
+    past(s, 0, 12)
+}
+
+// The place behind bytes that have their length before them.
+fn past_bytes(s: &[u8], at: usize) -> usize {
+    let n = read_size(s, at) as usize;
+    past(s, past(s, at, 4), n)
+}
+
+// Bytes that have their length before them.
+pub fn bytes(s: &[u8], at: usize) -> &[u8] {
+    let n = read_size(s, at) as usize;
+    part_of(s, past(s, at, 4), n)
+}
+
+// 64 kinds for each operation, from 1 on: one for each number. Anything else is of kind 1.
+fn kind_of(operation: u32, number: u64) -> usize {
+    if 4 < operation {
+        return 1;
+    }
+    if 63 < number {
+        return 1;
+    }
+    64 * (operation as usize) + (number as usize)
+}
+
+pub fn read_vector(s: &[u8], at: usize) -> Vector {
+    let limit = read_size(s, past(s, at, 1));
+    let first = past(s, at, 5);
+    let second = past_bytes(s, first);
+    let sizes = past_bytes(s, second);
+    let numbers = past(s, sizes, 12);
+    let result = past(s, numbers, 40);
+    let message = past_bytes(s, result);
+    Vector {
+        kind: kind_of(read_size(s, at) % 256, read_value(s, numbers)),
+        limit,
+        first,
+        second,
+        sizes,
+        numbers,
+        result,
+        message,
+        next: past_bytes(s, message),
+    }
+}

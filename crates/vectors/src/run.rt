@@ -1,0 +1,108 @@
+// A vector run through its operation, and compared with what is expected.
+use crate::list::Vector;
+use crate::list::bytes;
+use answer::Answer;
+use buffer::read_size;
+use buffer::read_value;
+use tape::part::part_of;
+
+// Buffers, longer than any that a list asks for, full of bytes that are not zero.
+fn result_room() -> [u8; 16384] {
+    [0xA5; 16384]
+}
+
+fn work_room() -> [u8; 69632] {
+    [0xA5; 69632]
+}
+
+fn message_room() -> [u8; 4096] {
+    [0xA5; 4096]
+}
+
+// The five numbers.
+fn tells(r: Answer, numbers: &[u8]) -> bool {
+    let span = r.span;
+    if r.number as u64 != read_value(numbers, 0) {
+        return false;
+    }
+    if span.start as u64 != read_value(numbers, 8) {
+        return false;
+    }
+    if span.end as u64 != read_value(numbers, 16) {
+        return false;
+    }
+    if r.message_length as u64 != read_value(numbers, 24) {
+        return false;
+    }
+    r.charged as u64 == read_value(numbers, 32)
+}
+
+fn byte(s: &[u8], i: usize) -> u8 {
+    if i < s.len() { s[i] } else { 0 }
+}
+
+// Whether the buffer holds the bytes, and zeros behind them.
+fn holds(buffer: &[u8], head: &[u8]) -> bool {
+    if buffer.len() < head.len() {
+        return false;
+    }
+    for i in 0..buffer.len() {
+        if buffer[i] != byte(head, i) {
+            return false;
+        }
+    }
+    true
+}
+
+fn run(s: &[u8], v: Vector, result: &mut [u8], work: &mut [u8], message: &mut [u8]) -> Answer {
+    let first = bytes(s, v.first);
+    let second = bytes(s, v.second);
+    match v.kind / 64 {
+        1 => body_check::check(first, message),
+        2 => registry::build(first, message),
+        3 => substitution::substitute(first, second, v.limit, result, work, message),
+        _ => expansion::expand(first, second, v.limit, result, work, message),
+    }
+}
+
+fn on_buffers(s: &[u8], v: Vector, result: &mut [u8], work: &mut [u8], message: &mut [u8]) -> bool {
+    let r = run(s, v, result, work, message);
+    if !tells(r, part_of(s, v.numbers, 40)) {
+        return false;
+    }
+    if !holds(result, bytes(s, v.result)) {
+        return false;
+    }
+    if !holds(work, b"") {
+        return false;
+    }
+    holds(message, bytes(s, v.message))
+}
+
+fn lend_result(s: &[u8], v: Vector, work: &mut [u8], message: &mut [u8]) -> bool {
+    let size = read_size(part_of(s, v.sizes, 12), 0) as usize;
+    if 16384 < size {
+        return false;
+    }
+    let mut result = result_room();
+    on_buffers(s, v, &mut result[0..size], work, message)
+}
+
+fn lend_work(s: &[u8], v: Vector, message: &mut [u8]) -> bool {
+    let size = read_size(part_of(s, v.sizes, 12), 4) as usize;
+    if 69632 < size {
+        return false;
+    }
+    let mut work = work_room();
+    lend_result(s, v, &mut work[0..size], message)
+}
+
+// Check and registry are lent a result and a work buffer of no bytes.
+pub fn comes_out(s: &[u8], v: Vector) -> bool {
+    let size = read_size(part_of(s, v.sizes, 12), 8) as usize;
+    if 4096 < size {
+        return false;
+    }
+    let mut message = message_room();
+    lend_work(s, v, &mut message[0..size])
+}

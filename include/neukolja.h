@@ -1,0 +1,112 @@
+/* Neukolja: the temporal macro expander that hubs and valve heads share.
+ *
+ * Every function ends, on every input, and writes nothing outside the buffers that it is lent. A tape is read where it lies and
+ * is not changed. `answer` points to five numbers; NEUKOLJA_NUMBER and so on are their places. The number is 0 for success and
+ * else one of the refusals below. The span is 0..0 where a refusal has none. A message is ASCII but for the ellipsis, which is
+ * E2 80 A6, and has no zero at its end.
+ *
+ * A function keeps nothing between calls, so several threads may call it at once, each with buffers of its own. What a call
+ * writes to must not overlap anything else that it is given. No pointer may be null, not even with the length 0.
+ */
+#ifndef NEUKOLJA_H
+#define NEUKOLJA_H
+
+#include <stddef.h>
+#include <stdint.h>
+
+#ifdef __cplusplus
+extern "C" {
+#endif
+
+/* the least sizes of the lent buffers, in bytes; longer ones are filled with zeros to their end */
+#define NEUKOLJA_RESULT_SIZE 12296u
+#define NEUKOLJA_WORK_SIZE 65536u
+#define NEUKOLJA_MESSAGE_SIZE 2048u
+
+/* the largest tape: 8 bytes, 9 for each of 1,024 entries, and 3,072 of text */
+#define NEUKOLJA_TAPE_SIZE 12296u
+
+/* the places of an answer */
+enum {
+    NEUKOLJA_NUMBER = 0,
+    NEUKOLJA_SPAN_START = 1,
+    NEUKOLJA_SPAN_END = 2,
+    NEUKOLJA_MESSAGE_LENGTH = 3,
+    NEUKOLJA_CHARGED = 4,
+    NEUKOLJA_ANSWER_LENGTH = 5
+};
+
+/* the numbers */
+enum {
+    NEUKOLJA_OK = 0,
+    NEUKOLJA_SHORT_BUFFER = 1,          /* a buffer is below its least size */
+    NEUKOLJA_MALFORMED = 2,             /* not a tape with the root wanted */
+    NEUKOLJA_TOO_LARGE = 3,             /* over a largest figure; has a call's span if the call with its
+                                           arguments, or what it becomes, is too large */
+    NEUKOLJA_RESERVED_NAME = 10,        /* a macro has a reserved name */
+    NEUKOLJA_DUPLICATE_NAME = 11,       /* a macro is defined twice */
+    NEUKOLJA_UNDECLARED_PARAMETER = 20, /* in a body: `?` and a name that is no parameter */
+    NEUKOLJA_PLAIN_IDENTIFIER = 21,     /* .. a plain identifier */
+    NEUKOLJA_CALL_IN_BODY = 22,         /* .. a call */
+    NEUKOLJA_UNKNOWN_MACRO = 30,
+    NEUKOLJA_CEDAR_MACRO = 31,
+    NEUKOLJA_VALUE_AS_CONDITION = 32,
+    NEUKOLJA_CONDITION_AS_VALUE = 33,
+    NEUKOLJA_ARGUMENT_COUNT = 34,
+    NEUKOLJA_BUDGET = 35,               /* more nodes than the limit */
+    NEUKOLJA_STRAY_CONDITION = 36,      /* a sigil outside of a macro's body: as a condition */
+    NEUKOLJA_STRAY_WITHIN = 37,         /* .. as an interval */
+    NEUKOLJA_STRAY_SLOT = 38,           /* .. as a binder */
+    NEUKOLJA_STRAY_FIELD = 39,          /* .. in a predicate's field */
+    NEUKOLJA_STRAY_OPERAND = 40,        /* .. as an operand */
+    NEUKOLJA_UNBOUND_PARAMETER = 41,
+    NEUKOLJA_NOT_A_CONDITION = 42,      /* an argument of another kind than its place wants */
+    NEUKOLJA_BINDER_AS_CONDITION = 43,  /* `$` as a condition */
+    NEUKOLJA_NOT_AN_INTERVAL = 44,
+    NEUKOLJA_NOT_A_TERM = 45,
+    NEUKOLJA_NOT_AN_IDENTIFIER = 46,
+    NEUKOLJA_NOT_A_PREDICATE = 47,      /* fields are given to what is no predicate */
+    NEUKOLJA_CALL_MET_IN_BODY = 48
+};
+
+/* The body check of one definition, a tape whose root is 60. Nothing is charged.
+ * message: the message of a refusal, then zeros to the end; all zeros on success. */
+void neukolja_check(const uint8_t *definition, size_t definition_length,
+                    uint8_t *message, size_t message_length,
+                    uint64_t answer[5]);
+
+/* The names of a registry, a tape whose root is a list of 60: reserved ones, and ones that stand twice. Nothing is charged.
+ * message: the message of a refusal, then zeros to the end; all zeros on success. */
+void neukolja_registry(const uint8_t *registry, size_t registry_length,
+                       uint8_t *message, size_t message_length,
+                       uint64_t answer[5]);
+
+/* One definition applied to one call, a tape whose root is 54; the names are not compared. At most `limit` nodes are charged.
+ * result:  the tape of a condition or a term, then zeros to the end; all zeros on a refusal.
+ * work:    all zeros afterwards.
+ * message: the message of a refusal, then zeros to the end; all zeros on success. */
+void neukolja_substitute(const uint8_t *definition, size_t definition_length,
+                         const uint8_t *call, size_t call_length,
+                         uint32_t limit,
+                         uint8_t *result, size_t result_length,
+                         uint8_t *work, size_t work_length,
+                         uint8_t *message, size_t message_length,
+                         uint64_t answer[5]);
+
+/* A condition with its macro calls expanded by the definitions of a registry. At most `limit` nodes are charged.
+ * result:  the tape of the condition, then zeros to the end; all zeros on a refusal.
+ * work:    all zeros afterwards.
+ * message: the message of a refusal, then zeros to the end; all zeros on success. */
+void neukolja_expand(const uint8_t *registry, size_t registry_length,
+                     const uint8_t *condition, size_t condition_length,
+                     uint32_t limit,
+                     uint8_t *result, size_t result_length,
+                     uint8_t *work, size_t work_length,
+                     uint8_t *message, size_t message_length,
+                     uint64_t answer[5]);
+
+#ifdef __cplusplus
+}
+#endif
+
+#endif
