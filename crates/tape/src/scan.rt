@@ -19,7 +19,7 @@ use grammar::stack::unpack;
 ghost use mathlib.Core.Path.{_≡_};
 ghost use Prim.Native.Nat.{_+_, _*_, _≤_, _<_};
 ghost use lib.ListN.{length};
-ghost use Rattle.grammar.specs.Stack.{grammarWords};
+ghost use Rattle.grammar.specs.Stack.{cell, grammarWords};
 ghost use Rattle.tape.specs.Layouts.{headAt};
 ghost use Rattle.tape.specs.Scan.{scanAt, scanFrom, skipAt, starts, tooDeep};
 ghost use Rattle.tape.specs.Turn.{CanTurn, Starts, Turned};
@@ -80,7 +80,19 @@ fn take_entry(
     Turn::Passed(next, text + e.text as usize, over)
 }
 
-// The scan with a stack at hand. An entry brings one cell more at the most, so 1,025 cells are enough.
+// The cell of a scan's root.
+fn first_cell(sort: u64) -> Cell
+    ensures { λ r. ⌜ r ≡ cell sort 0 0 0 ⌝ }
+{
+    Cell {
+        word: sort,
+        more: 0,
+        nesting: 0,
+        calls: 0,
+    }
+}
+
+// The scan with a stack at hand. An entry brings one cell more at the most, so it has a cell more than the tape has entries.
 fn run(
     stack: &mut [u64],
     grammar: &[u64],
@@ -90,24 +102,16 @@ fn run(
     sort: u64,
     limited: bool,
 ) -> Scanned
-    requires { ⌜ (length (now stack) ≡ 1025) × Starts (now s) l from sort × (now grammar ≡ grammarWords) ⌝ }
+    requires { ⌜ (l .entries < length (now stack)) × Starts (now s) l from sort × (now grammar ≡ grammarWords) ⌝ }
     ensures { λ r. ⌜ r ≡ scanFrom (now (s .entry)) l from sort limited ⌝ }
 {
     let entries = l.entries;
-    let mut top = put(
-        stack,
-        1025,
-        Cell {
-            word: sort,
-            more: 0,
-            nesting: 0,
-            calls: 0,
-        },
-    );
+    let cells = stack.len();
+    let mut top = put(stack, cells, first_cell(sort));
     let mut at = from.at;
     let mut text = from.text;
     let mut over = false;
-    while top < 1025 {
+    while top < cells {
         if at == entries {
             return Scanned::Malformed;
         }
@@ -131,13 +135,45 @@ fn run(
     Scanned::Ends(Place { at, text }, over)
 }
 
-fn scan_held(s: &[u8], l: Layout, from: Place, sort: u64, limited: bool) -> Scanned
+fn scan_short(s: &[u8], l: Layout, from: Place, sort: u64, limited: bool) -> Scanned
+    requires { ⌜ Starts (now s) l from sort × (l .entries < 128) ⌝ }
+    ensures { λ r. ⌜ r ≡ scanFrom (now (s .entry)) l from sort limited ⌝ }
+{
+    let mut stack = [0u64; 128];
+    let grammar = table();
+    run(&mut stack, &grammar, s, l, from, sort, limited)
+}
+
+fn scan_middle(s: &[u8], l: Layout, from: Place, sort: u64, limited: bool) -> Scanned
+    requires { ⌜ Starts (now s) l from sort × (l .entries < 512) ⌝ }
+    ensures { λ r. ⌜ r ≡ scanFrom (now (s .entry)) l from sort limited ⌝ }
+{
+    let mut stack = [0u64; 512];
+    let grammar = table();
+    run(&mut stack, &grammar, s, l, from, sort, limited)
+}
+
+fn scan_long(s: &[u8], l: Layout, from: Place, sort: u64, limited: bool) -> Scanned
     requires { ⌜ Starts (now s) l from sort ⌝ }
     ensures { λ r. ⌜ r ≡ scanFrom (now (s .entry)) l from sort limited ⌝ }
 {
     let mut stack = [0u64; 1025];
     let grammar = table();
     run(&mut stack, &grammar, s, l, from, sort, limited)
+}
+
+// The stack is cleared before each scan, so it is a short one where that is enough.
+fn scan_held(s: &[u8], l: Layout, from: Place, sort: u64, limited: bool) -> Scanned
+    requires { ⌜ Starts (now s) l from sort ⌝ }
+    ensures { λ r. ⌜ r ≡ scanFrom (now (s .entry)) l from sort limited ⌝ }
+{
+    if l.entries < 128 {
+        return scan_short(s, l, from, sort, limited);
+    }
+    if l.entries < 512 {
+        return scan_middle(s, l, from, sort, limited);
+    }
+    scan_long(s, l, from, sort, limited)
 }
 
 // Whether the slice holds the layout, the place is in it, and the sort is one.
