@@ -6,7 +6,7 @@ use crate::damage::damage;
 use crate::model::{self, Walk};
 use crate::random::Random;
 use crate::tape::{self, LARGEST_CALLS, LARGEST_PARAMETERS, LARGEST_TEXT, Node, UNBOUNDED};
-use crate::trees::{DEPTH, Ground, Macro, Style, Trees};
+use crate::trees::{DEPTH, Ground, MOST_DEFINITIONS, Macro, Style, Trees};
 
 /// The operation of a case is drawn first.
 fn draw(random: &mut Random) -> Operation {
@@ -91,11 +91,24 @@ fn a_definition(g: &mut Trees) -> (Node, Macro) {
 }
 
 fn a_registry(g: &mut Trees) -> Node {
-    let count = match g.random.weighted(&[90, 10]) {
-        0 => g.random.weighted(&[4, 20, 24, 20, 16, 16]),
-        _ => g.random.within(6, 20),
-    };
-    g.registry(count)
+    match g.random.weighted(&[90, 8, 2]) {
+        0 => {
+            let count = g.random.weighted(&[4, 20, 24, 20, 16, 16]);
+            g.registry(count)
+        }
+        1 => {
+            let count = g.random.within(6, 20);
+            g.registry(count)
+        }
+        _ => {
+            let count = match g.random.weighted(&[70, 25, 5]) {
+                0 => g.random.within(21, MOST_DEFINITIONS),
+                1 => MOST_DEFINITIONS,
+                _ => MOST_DEFINITIONS + 1,
+            };
+            g.large_registry(count)
+        }
+    }
 }
 
 // ------------------------------------------------------------------ tapes at a limit

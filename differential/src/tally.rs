@@ -23,12 +23,12 @@ pub struct Tally {
     reasons: BTreeMap<(u64, String), u64>,
     witnesses: BTreeMap<Witness, u64>,
     places: BTreeMap<Operation, BTreeSet<Place>>,
-    /// How many accepted tapes and results were of which size, and how many charges a success made.
+    /// How many accepted tapes, registries and results were of which size, and how many charges a success made.
     sizes: BTreeMap<(&'static str, usize), u64>,
 }
 
 /// The last number of each class in which sizes are counted.
-const CLASSES: [usize; 9] = [0, 3, 15, 63, 255, 511, 767, 1023, 1024];
+const CLASSES: [usize; 9] = [0, 3, 20, 63, 255, 511, 767, 1023, 1024];
 
 impl Tally {
     pub fn add(&mut self, case: &Case, answer: &Answer, notes: &Notes, witness: Witness) {
@@ -43,6 +43,9 @@ impl Tally {
             second.iter().for_each(|tree| places::seen(tree, 1, seen));
             self.count("entries on an accepted tape", tape::measure(first).entries);
             second.iter().for_each(|tree| self.count("entries on an accepted tape", tape::measure(tree).entries));
+            if matches!(case.operation, Operation::Registry | Operation::Expand) {
+                self.count("definitions of a registry", first.children.len());
+            }
         }
         if let Some(result) = &notes.result {
             self.count("entries of a result", tape::measure(result).entries);
@@ -98,7 +101,9 @@ impl Tally {
             first = last + 1;
         }
         println!();
-        for what in ["entries on an accepted tape", "entries of a result", "charges of a success"] {
+        for what in
+            ["entries on an accepted tape", "definitions of a registry", "entries of a result", "charges of a success"]
+        {
             print!("{what:>30}");
             (0..CLASSES.len()).for_each(|i| print!(" {:>9}", self.sizes.get(&(what, i)).unwrap_or(&0)));
             println!();

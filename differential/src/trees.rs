@@ -1,7 +1,7 @@
 //! Random well-formed trees.
 
 use crate::random::Random;
-use crate::tape::{self, Node};
+use crate::tape::{self, LARGEST, Node};
 
 /// How a parameter is meant to be used.
 #[derive(Clone, Copy, Debug, PartialEq, Eq)]
@@ -60,6 +60,12 @@ pub struct Trees<'a> {
 
 /// No path of a random tree is meant to be longer; the limit itself is tried by `brim`.
 pub const DEPTH: usize = 40;
+
+/// A definition has four entries at the least: 60, 40, 41 and 61.
+const LEAST_DEFINITION: usize = 4;
+
+/// The most definitions that a registry's tape has room for, with the list's own entry.
+pub const MOST_DEFINITIONS: usize = (LARGEST.entries - 1) / LEAST_DEFINITION;
 
 const NAMES: [&str; 14] = ["a", "b", "c", "d", "s", "t", "x", "y", "z", "w", "v", "f", "g", "h"];
 const ODD_NAMES: [&str; 10] = ["", " ", "`", "?x", "$t", "x y", "in", "a.b.c", "~~~~", "0"];
@@ -525,5 +531,47 @@ impl Trees<'_> {
             self.macros.push(known);
         }
         Node::counted(41, 1, definitions)
+    }
+
+    /// A registry of many definitions, most of them Cedar and without parameters. The last one has the first claim to the
+    /// entries that are left, so that calls of it are made; few others can be called. Names are numbered, and now and then
+    /// the last one has an earlier one's name, or a reserved one.
+    pub fn large_registry(&mut self, count: usize) -> Node {
+        let mut names: Vec<Vec<u8>> = (0..count).map(|i| format!("d{i}").into_bytes()).collect();
+        match self.random.weighted(&[85, 10, 5]) {
+            0 => {}
+            1 => names[count - 1] = names[self.random.below(count - 1)].clone(),
+            _ => names[count - 1] = self.random.pick(&RESERVED).as_bytes().to_vec(),
+        }
+        let mut spare = (LARGEST.entries - 1).saturating_sub(LEAST_DEFINITION * count);
+        let mut definitions: Vec<Node> = names
+            .into_iter()
+            .rev()
+            .enumerate()
+            .map(|(i, name)| {
+                let made = (i == 0 || self.random.chance(2)).then(|| self.small_definition(&name, spare)).flatten();
+                let (definition, known) = made.unwrap_or_else(|| self.cedar_definition(name));
+                spare = spare.saturating_sub(tape::measure(&definition).entries - LEAST_DEFINITION);
+                self.macros.push(known);
+                definition
+            })
+            .collect();
+        definitions.reverse();
+        Node::counted(41, 1, definitions)
+    }
+
+    /// A definition with a few nodes, if the entries that are left are enough for one that comes up.
+    fn small_definition(&mut self, name: &[u8], spare: usize) -> Option<(Node, Macro)> {
+        let fuel = std::mem::replace(&mut self.fuel, 2);
+        let made = (0..8)
+            .map(|_| self.definition(name.to_vec()))
+            .find(|(definition, _)| tape::measure(definition).entries <= LEAST_DEFINITION + spare);
+        self.fuel = fuel;
+        made
+    }
+
+    fn cedar_definition(&mut self, name: Vec<u8>) -> (Node, Macro) {
+        let parts = vec![Node::with_text(40, &name), Node::counted(41, 2, vec![]), Node::new(61, 0, vec![])];
+        (Node::new(60, self.span(), parts), Macro { name, uses: vec![], body: 61 })
     }
 }
