@@ -9,7 +9,7 @@ use lib.Seq.{take-all}
 use native.Mathlib.Omega.{arith}
 use Rattle.format.specs.Entry.{Text}
 use Rattle.buffer.specs.Buffer.{Message, messageIn}
-use Rattle.tape.specs.Node.{spanOf}
+use Rattle.nodes.specs.Node.{spanOf}
 use Rattle.tape.specs.declared.layout.Layout.{Layout}
 use Rattle.messages.specs.Reason.{numberOf, messageOf}
 use Rattle.messages.specs.Write.{filled}

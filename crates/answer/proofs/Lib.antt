@@ -1,3 +1,3 @@
 -- The laws that several proofs of the crate cite.
-pub mod Ends
+mod Ends
 pub mod Operations

@@ -5,7 +5,7 @@ use mathlib.Core.Path.{_≡_}
 use mathlib.Core.List.{List, []}
 use mathlib.Core.Option.{none, some}
 use lib.ListN.{length}
-use Rattle.tape.specs.Node.{spanOf}
+use Rattle.nodes.specs.Node.{spanOf}
 use Rattle.tape.specs.declared.layout.Layout.{Layout}
 use Rattle.messages.specs.Reason.{numberOf, messageOf}
 use Rattle.messages.specs.declared.Refused.{Refused}

@@ -1,8 +1,8 @@
 // What an operation returns, and how it ends: its message at the front of the message buffer, zeros behind it.
 use buffer::zero;
 use messages::Refused;
+use nodes::Span;
 use tape::layout::Layout;
-use tape::node::Span;
 ghost use mathlib.Core.List.{[]};
 ghost use mathlib.Core.Path.{_≡_};
 ghost use lib.ListN.{length};

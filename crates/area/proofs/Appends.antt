@@ -20,8 +20,9 @@ use Rattle.buffer.proofs.Decides.{both, cases, true-of, false-of}
 use Rattle.buffer.proofs.Kept.{kept-sets, spells-front, spells-back, spells-more}
 use Rattle.area.specs.declared.Out.{Out}
 use Rattle.area.specs.Area.{
-  Paper,
-  paper,
+  Area,
+  areaIn,
+  emptyAt,
   codeEnd,
   valueEnd,
   textEnd,
@@ -47,8 +48,7 @@ length-text : (es more : List Entry) → length (textOf (es ++ more)) ≡ length
 length-text es more = ap length (text-append es more) ∙ length-append (textOf es) (textOf more)
 
 -- an area to which nothing was written
-pub out-none : (base : ℕ) (bytes : List ℕ) → base + 12288 ≤ length bytes
-    → OutIs (paper (record { base = base; n = 0; t = 0; lost = false }) bytes) []
+pub out-none : (base : ℕ) (bytes : List ℕ) → base + 12288 ≤ length bytes → OutIs (areaIn (emptyAt base) bytes) []
 unfolding codesOf valuesOf textOf fitsSizes
 out-none base bytes h =
     record {
@@ -67,7 +67,7 @@ out-none base bytes h =
 
 -- ------------------------------------------------------------------ a run for which there is room
 
-module _ (P : Paper) (es more : List Entry) (h : Holds P es) (room : RunRoom (codesOf more) (valuesOf more) (textOf more) P) where
+module _ (P : Area) (es more : List Entry) (h : Holds P es) (room : RunRoom (codesOf more) (valuesOf more) (textOf more) P) where
   abbrev out : Out
   out = P .out
 
@@ -141,7 +141,7 @@ fits-back es more f =
     fits-decides (length more) (length (textOf more)) .fails f
     (omega (arith, h .0, length-append es more), omega (arith, h .1, length-text es more)))
 
-module _ {P : Paper} {es : List Entry} (more : List Entry) (o : OutIs P es) where
+module _ {P : Area} {es : List Entry} (more : List Entry) (o : OutIs P es) where
   -- there is room for them if and only if all fit together
   room-fits : Decides (RunRoom (codesOf more) (valuesOf more) (textOf more) P) (fitsArea (es ++ more))
   room-fits =
@@ -187,11 +187,11 @@ module _ {P : Paper} {es : List Entry} (more : List Entry) (o : OutIs P es) wher
       (λ f. rw (append-full (codesOf more) (valuesOf more) (textOf more) P (room-fits .fails f)) (out-lost f))
 
 -- one entry
-pub out-put : {P : Paper} {es : List Entry} (code value : ℕ) → OutIs P es → OutIs (putIn code value P) (es ++ (entry code value ∷ []))
+pub out-put : {P : Area} {es : List Entry} (code value : ℕ) → OutIs P es → OutIs (putIn code value P) (es ++ (entry code value ∷ []))
 unfolding putIn codesOf valuesOf textOf
 out-put code value o = rw append-nil at (out-append (entry code value ∷ []) o)
 
-pub out-put-text : {P : Paper} {es : List Entry} (code : ℕ) (text : Text) → OutIs P es
+pub out-put-text : {P : Area} {es : List Entry} (code : ℕ) (text : Text) → OutIs P es
     → OutIs (putTextIn code text P) (es ++ (textEntry code text ∷ []))
 unfolding putTextIn codesOf valuesOf textOf
 out-put-text code text o = simp append-nil at (out-append (textEntry code text ∷ []) o)
@@ -199,7 +199,7 @@ out-put-text code text o = simp append-nil at (out-append (textEntry code text �
 -- ------------------------------------------------------------------ what an area holds
 
 -- the area is whole if and only if what was written to it fits, and then its sections are those of the entries
-module _ {P : Paper} {es : List Entry} (o : OutIs P es) where
+module _ {P : Area} {es : List Entry} (o : OutIs P es) where
   pub whole-fits : isWhole P ≡ fitsArea es
   whole-fits =
       cases (fitsArea es)
@@ -218,7 +218,7 @@ module _ {P : Paper} {es : List Entry} (o : OutIs P es) where
       false-of (room-decides (length (P .bytes)) (P .out) 0 0) (λ r. both (o .loses ∙ rw f refl) (r .live))
       ∙ sym f)
 
-module _ {P : Paper} {es : List Entry} (h : Holds P es) where
+module _ {P : Area} {es : List Entry} (h : Holds P es) where
   pub codes-held : codesIn P ≡ codesOf es
   codes-held = rw (h .entries, ← (length-codes es)) (first-stands (h .stands) .0 .spelled)
 
@@ -229,7 +229,7 @@ module _ {P : Paper} {es : List Entry} (h : Holds P es) where
   text-held = rw (h .bytes) (first-stands (h .stands) .2 .spelled)
 
 -- all that was written to another area
-pub out-append-out : {P Q : Paper} {es more : List Entry} → OutIs Q more → OutIs P es → OutIs (appendOutIn Q P) (es ++ more)
+pub out-append-out : {P Q : Area} {es more : List Entry} → OutIs Q more → OutIs P es → OutIs (appendOutIn Q P) (es ++ more)
 unfolding appendOutIn
 out-append-out {P} {Q} {es} {more} q o =
     cases (fitsArea more)

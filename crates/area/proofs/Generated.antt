@@ -15,7 +15,7 @@ use Rattle.definition.specs.Outcome.{spanStart}
 use Rattle.definition.specs.Substitute.{SubstMaps, gensymFor}
 use Rattle.buffer.proofs.Sets.{sets-behind, sets-out}
 use Rattle.buffer.proofs.Lent.{sets-lent-rest}
-use Rattle.area.specs.Area.{Paper, paper, textEnd, RoomFor, grown, headed, loseIn, growIn, putTextIn, generated}
+use Rattle.area.specs.Area.{Area, areaIn, textEnd, RoomFor, grown, headed, loseIn, growIn, putTextIn, generated}
 use Rattle.area.proofs.Room.{append-room, append-full}
 
 -- it is the name that the definition of substitution has
@@ -55,9 +55,9 @@ module _ (s s₁ s₂ : List ℕ) (name : Text) (start : ℕ) (p : s₁ ≡ sets
 
 -- ------------------------------------------------------------------ the entry
 
-module _ (code : ℕ) (text : Text) (P : Paper) where
+module _ (code : ℕ) (text : Text) (P : Area) where
   pub put-text-room : RoomFor (length (P .bytes)) (P .out) 1 (length text)
-      → paper (grown (P .out) 1 (length text))
+      → areaIn (grown (P .out) 1 (length text))
       (headed (sets (P .bytes) (textEnd (P .out)) text) (P .out) (code ∷ []) (le 8 (length text)))
       ≡ putTextIn code text P
   unfolding putTextIn growIn

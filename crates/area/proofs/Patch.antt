@@ -18,7 +18,7 @@ use Rattle.format.proofs.Stands.{codes-append, values-append, text-append, stan
 use Rattle.buffer.specs.Buffer.{Decides}
 use Rattle.buffer.proofs.Decides.{both, cases, true-of, false-of, decides-lt, decides-and}
 use Rattle.buffer.proofs.Kept.{kept-sets, spells-front, spells-back, spells-over}
-use Rattle.area.specs.Area.{Paper, paper, RoomFor, isWhole, addedAt, patchIn, fitsArea, Holds, OutIs, Within, valued}
+use Rattle.area.specs.Area.{Area, areaIn, RoomFor, isWhole, addedAt, patchIn, fitsArea, Holds, OutIs, Within, valued}
 use Rattle.area.proofs.Room.{fits-decides, room-decides}
 use Rattle.area.proofs.Within.{within-refl}
 use Rattle.area.proofs.Appends.{whole-fits}
@@ -26,15 +26,15 @@ use Rattle.area.proofs.Appends.{whole-fits}
 -- ------------------------------------------------------------------ an index, and none
 
 -- the area holds an entry at the index
-abbrev pub HasEntry : ℕ → Paper → Type 0
+abbrev pub HasEntry : ℕ → Area → Type 0
 HasEntry index P = RoomFor (length (P .bytes)) (P .out) 0 0 × (index < P .out .n)
 
-module _ (index added : ℕ) (P : Paper) where
+module _ (index added : ℕ) (P : Area) where
   entry-decides : Decides (HasEntry index P) (isWhole P && ltb index (P .out .n))
   entry-decides = decides-and (room-decides (length (P .bytes)) (P .out) 0 0) (decides-lt index (P .out .n))
 
   pub patch-there : HasEntry index P
-      → patchIn index added P ≡ paper (P .out) (addedAt (P .out .base + 1024 + 8 * index) added (P .bytes))
+      → patchIn index added P ≡ areaIn (P .out) (addedAt (P .out .base + 1024 + 8 * index) added (P .bytes))
   unfolding patchIn
   patch-there h = rw (true-of entry-decides h, patchIn) refl
 
@@ -85,8 +85,8 @@ module _ (a : List Entry) (e : Entry) (z : List Entry) (v : ℕ) where
       (length-le 8 v ∙ sym (length-le 8 (e .value))) (rw (values-append a (e ∷ z)) at p))
 
   -- the area, where its value section is patched
-  patched-holds : {P : Paper} → fitsArea (a ++ (e ∷ z)) ≡ true → Holds P (a ++ (e ∷ z))
-      → Holds (paper (P .out) (sets (P .bytes) (P .out .base + 1024 + 8 * length a) (le 8 v))) (a ++ (valued e v ∷ z))
+  patched-holds : {P : Area} → fitsArea (a ++ (e ∷ z)) ≡ true → Holds P (a ++ (e ∷ z))
+      → Holds (areaIn (P .out) (sets (P .bytes) (P .out .base + 1024 + 8 * length a) (le 8 v))) (a ++ (valued e v ∷ z))
   patched-holds {P} f h =
       let b = P .out .base in
       let at : ℕ = b + 1024 + 8 * length a in
@@ -109,7 +109,7 @@ module _ (a : List Entry) (e : Entry) (z : List Entry) (v : ℕ) where
 -- ------------------------------------------------------------------ a count
 
 -- the value that is found is the entry's, and so the sum is stored
-added-is : {P : Paper} (a : List Entry) (e : Entry) (z : List Entry) (added : ℕ) → Holds P (a ++ (e ∷ z)) → e .value + added < 2 ^ 64
+added-is : {P : Area} (a : List Entry) (e : Entry) (z : List Entry) (added : ℕ) → Holds P (a ++ (e ∷ z)) → e .value + added < 2 ^ 64
     → let at : ℕ = P .out .base + 1024 + 8 * length a in addedAt at added (P .bytes) ≡ sets (P .bytes) at (le 8 (e .value + added))
 added-is {P} a e z added h small =
     let there : fromLe (part (P .bytes) (P .out .base + 1024 + 8 * length a) 8) ≡ e .value =
@@ -118,7 +118,7 @@ added-is {P} a e z added h small =
     rw (there, m) refl
 
 -- What is known of the index and of the sum may rest on the entries' being there: where they were lost, nothing is patched.
-pub out-patch : {P : Paper} (a : List Entry) (e : Entry) (z : List Entry) (index added : ℕ)
+pub out-patch : {P : Area} (a : List Entry) (e : Entry) (z : List Entry) (index added : ℕ)
     → (fitsArea (a ++ (e ∷ z)) ≡ true → (index ≡ length a) × (e .value + added < 2 ^ 64))
     → OutIs P (a ++ (e ∷ z)) → OutIs (patchIn index added P) (a ++ (valued e (e .value + added) ∷ z))
 out-patch {P} a e z index added known o =

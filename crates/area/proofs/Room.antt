@@ -11,7 +11,7 @@ use Rattle.format.specs.Limits.{fitsSizes}
 use Rattle.buffer.specs.Buffer.{Decides}
 use Rattle.buffer.proofs.Decides.{both, decides-le, decides-and, true-of, false-of}
 use Rattle.area.specs.declared.Out.{Out}
-use Rattle.area.specs.Area.{Paper, RoomFor, hasRoom, loseIn, growIn, appendIn, codesIn, valuesIn, textIn, appendOutIn}
+use Rattle.area.specs.Area.{Area, RoomFor, hasRoom, loseIn, growIn, appendIn, codesIn, valuesIn, textIn, appendOutIn}
 
 pub fits-decides : (n t : ℕ) → Decides ((n ≤ 1024) × (t ≤ 3072)) (fitsSizes n t)
 unfolding fitsSizes
@@ -33,11 +33,11 @@ room-decides size out k u =
     }
 
 -- the area has room for the run that three parts spell
-abbrev pub RunRoom : List ℕ → List ℕ → List ℕ → Paper → Type 0
+abbrev pub RunRoom : List ℕ → List ℕ → List ℕ → Area → Type 0
 RunRoom codes values text P =
     RoomFor (length (P .bytes)) (P .out) (length codes) (length text) × (length values ≡ 8 * length codes)
 
-module _ (codes values text : List ℕ) (P : Paper) where
+module _ (codes values text : List ℕ) (P : Area) where
   abbrev pub runFits : Bool
   runFits =
       hasRoom (length (P .bytes)) (P .out) (length codes) (length text) && eqb (length values) (8 * length codes)
@@ -57,7 +57,7 @@ module _ (codes values text : List ℕ) (P : Paper) where
 
 -- ------------------------------------------------------------------ all of another area
 
-module _ (Q P : Paper) where
+module _ (Q P : Area) where
   pub append-out-whole : RoomFor (length (Q .bytes)) (Q .out) 0 0 → appendIn (codesIn Q) (valuesIn Q) (textIn Q) P ≡ appendOutIn Q P
   unfolding appendOutIn
   append-out-whole room = rw (true-of (room-decides (length (Q .bytes)) (Q .out) 0 0) room, appendOutIn) refl

@@ -2,25 +2,26 @@
 -- Assumes nothing.
 use mathlib.Core.Path.{_≡_, refl, sym, _∙_}
 use mathlib.Core.List.{List, [], _++_, append-assoc}
-use mathlib.Core.Bool.{true, false}
+use mathlib.Core.Bool.{true}
 use Prim.Native.Nat.{ℕ, _+_, _*_, _≤_}
 use native.Mathlib.Omega.{arith}
 use lib.ListN.{length, length-append}
 use lib.Seq.{sets}
 use Rattle.format.specs.Entry.{Entry, le, textOf, encode}
-use Rattle.format.proofs.Stands.{length-part, length-encode}
+use Rattle.format.proofs.Encodes.{length-encode}
+use Rattle.format.proofs.Stands.{length-part}
 use Rattle.definition.specs.Answers.{padded}
 use Rattle.buffer.specs.Buffer.{zeroed}
 use Rattle.buffer.proofs.Decides.{true-of, false-of}
 use Rattle.buffer.proofs.Sets.{sets-behind}
 use Rattle.buffer.proofs.Zeros.{zeroed-all, zeroed-behind}
-use Rattle.area.specs.Area.{Paper, RoomFor, codesIn, valuesIn, textIn, tapeOf, finishedIn, fitsArea, OutIs}
+use Rattle.area.specs.Area.{Area, RoomFor, codesIn, valuesIn, textIn, tapeOf, finishedIn, fitsArea, OutIs}
 use Rattle.area.proofs.Room.{fits-decides, room-decides}
 use Rattle.area.proofs.Appends.{whole-fits, codes-held, values-held, text-held}
 
 -- ------------------------------------------------------------------ the writes
 
-module _ (P : Paper) (room : RoomFor (length (P .bytes)) (P .out) 0 0) where
+module _ (P : Area) (room : RoomFor (length (P .bytes)) (P .out) 0 0) where
   abbrev n : ℕ
   n = P .out .n
 
@@ -62,14 +63,14 @@ module _ (P : Paper) (room : RoomFor (length (P .bytes)) (P .out) 0 0) where
       let k : 8 + 9 * n + t ≡ length tape = omega arith in
       e ∙ rw (f₅, k, whole-tape) refl
 
-pub none-written : (P : Paper) (m : List ℕ) → (RoomFor (length (P .bytes)) (P .out) 0 0 → ⊥) → padded (length m) [] ≡ finishedIn P m
+pub none-written : (P : Area) (m : List ℕ) → (RoomFor (length (P .bytes)) (P .out) 0 0 → ⊥) → padded (length m) [] ≡ finishedIn P m
 unfolding finishedIn tapeOf
 none-written P m h =
     rw (false-of (room-decides (length (P .bytes)) (P .out) 0 0) h, tapeOf) (sym (zeroed-all m))
 
 -- ------------------------------------------------------------------ what they make
 
-module _ {P : Paper} {es : List Entry} (o : OutIs P es) where
+module _ {P : Area} {es : List Entry} (o : OutIs P es) where
   tape-encodes : fitsArea es ≡ true → tapeOf P ≡ encode es
   unfolding tapeOf encode
   tape-encodes f =
@@ -81,7 +82,3 @@ module _ {P : Paper} {es : List Entry} (o : OutIs P es) where
   finish-fits m f l =
       let z = fits-decides (length es) (length (textOf es)) .holds f in
       rw (tape-encodes f) (zeroed-behind m (encode es) (length (encode es)) refl (omega (arith, length-encode es, z .0, z .1)))
-
-  pub finish-lost : (m : List ℕ) → fitsArea es ≡ false → finishedIn P m ≡ padded (length m) []
-  unfolding finishedIn tapeOf
-  finish-lost m f = rw (whole-fits o, f, tapeOf) (zeroed-all m)

@@ -17,12 +17,12 @@ use Rattle.buffer.specs.Buffer.{zeroed, Kept}
 use Rattle.area.specs.declared.Out.{Out}
 
 -- a writer, and the slice that its area is in
-pub record Paper : Type 0 where
+pub record Area : Type 0 where
   pub out : Out
   pub bytes : List ℕ
 
-abbrev pub paper : Out → List ℕ → Paper
-paper out bytes = record { out = out; bytes = bytes }
+abbrev pub areaIn : Out → List ℕ → Area
+areaIn out bytes = record { out = out; bytes = bytes }
 
 -- where the next code, value and text go
 abbrev pub codeEnd : Out → ℕ
@@ -46,9 +46,13 @@ pub record RoomFor (size : ℕ) (out : Out) (k u : ℕ) : Type 0 where
 unfoldable pub hasRoom : ℕ → Out → ℕ → ℕ → Bool
 hasRoom size out k u = (leb (out .base + 12288) size && not (out .lost)) && fitsSizes (out .n + k) (out .t + u)
 
+-- the writer of an area with nothing in it
+abbrev pub emptyAt : ℕ → Out
+emptyAt base = record { base = base; n = 0; t = 0; lost = false }
+
 -- the writer whose entries were too many
-abbrev pub gone : Out → Out
-gone out = record { base = out .base; n = out .n; t = out .t; lost = true }
+abbrev pub overfull : Out → Out
+overfull out = record { base = out .base; n = out .n; t = out .t; lost = true }
 
 -- the writer with k entries more, and u bytes of text
 abbrev pub grown : Out → ℕ → ℕ → Out
@@ -58,18 +62,18 @@ grown out k u = record { base = out .base; n = out .n + k; t = out .t + u; lost 
 abbrev pub headed : List ℕ → Out → List ℕ → List ℕ → List ℕ
 headed s out codes values = sets (sets s (codeEnd out) codes) (valueEnd out) values
 
-unfoldable pub loseIn : Paper → Paper
-loseIn P = paper (gone (P .out)) (P .bytes)
+unfoldable pub loseIn : Area → Area
+loseIn P = areaIn (overfull (P .out)) (P .bytes)
 
 -- a run of entries for which there is room
-unfoldable pub growIn : List ℕ → List ℕ → List ℕ → Paper → Paper
+unfoldable pub growIn : List ℕ → List ℕ → List ℕ → Area → Area
 growIn codes values text P =
-    paper (grown (P .out) (length codes) (length text))
+    areaIn (grown (P .out) (length codes) (length text))
     (headed (sets (P .bytes) (textEnd (P .out)) text) (P .out) codes values)
 
 -- A run of entries, given as the three parts of a tape that spell it. Where there is no room for all of it, or the parts spell no
 -- run, nothing is written, and the writer remembers that.
-unfoldable pub appendIn : List ℕ → List ℕ → List ℕ → Paper → Paper
+unfoldable pub appendIn : List ℕ → List ℕ → List ℕ → Area → Area
 appendIn codes values text P =
     elim (hasRoom (length (P .bytes)) (P .out) (length codes) (length text) && eqb (length values) (8 * length codes)) [
       | true ↦ growIn codes values text P
@@ -77,10 +81,10 @@ appendIn codes values text P =
     ]
 
 -- an entry without text, and one whose value is its text's length
-unfoldable pub putIn : ℕ → ℕ → Paper → Paper
+unfoldable pub putIn : ℕ → ℕ → Area → Area
 putIn code value = appendIn (code ∷ []) (le 8 value) []
 
-unfoldable pub putTextIn : ℕ → Text → Paper → Paper
+unfoldable pub putTextIn : ℕ → Text → Area → Area
 putTextIn code text = appendIn (code ∷ []) (le 8 (length text)) text
 
 -- the text of a generated name: the name, `$` and a number
@@ -90,20 +94,20 @@ generated name start = name ++ (utf8 "$" ++ decimal start)
 -- ------------------------------------------------------------------ what an area holds
 
 -- nothing was lost, and all that was written stands within the slice
-abbrev pub isWhole : Paper → Bool
+abbrev pub isWhole : Area → Bool
 isWhole P = hasRoom (length (P .bytes)) (P .out) 0 0
 
-abbrev pub codesIn : Paper → List ℕ
+abbrev pub codesIn : Area → List ℕ
 codesIn P = part (P .bytes) (P .out .base) (P .out .n)
 
-abbrev pub valuesIn : Paper → List ℕ
+abbrev pub valuesIn : Area → List ℕ
 valuesIn P = part (P .bytes) (P .out .base + 1024) (8 * P .out .n)
 
-abbrev pub textIn : Paper → List ℕ
+abbrev pub textIn : Area → List ℕ
 textIn P = part (P .bytes) (P .out .base + 9216) (P .out .t)
 
 -- all that another area holds, one of another slice
-unfoldable pub appendOutIn : Paper → Paper → Paper
+unfoldable pub appendOutIn : Area → Area → Area
 appendOutIn Q P = elim (isWhole Q) [ true ↦ appendIn (codesIn Q) (valuesIn Q) (textIn Q) P | false ↦ loseIn P ]
 
 -- the value whose bytes stand at a place, with a number added
@@ -111,15 +115,15 @@ abbrev pub addedAt : ℕ → ℕ → List ℕ → List ℕ
 addedAt at added bytes = sets bytes at (le 8 ((fromLe (part bytes at 8) + added) % 2 ^ 64))
 
 -- The value of the entry at an index, with a number added. Where the area holds no such entry, nothing changes.
-unfoldable pub patchIn : ℕ → ℕ → Paper → Paper
+unfoldable pub patchIn : ℕ → ℕ → Area → Area
 patchIn index added P =
     elim (isWhole P && ltb index (P .out .n)) [
-      | true ↦ paper (P .out) (addedAt (P .out .base + 1024 + 8 * index) added (P .bytes))
+      | true ↦ areaIn (P .out) (addedAt (P .out .base + 1024 + 8 * index) added (P .bytes))
       | false ↦ P
     ]
 
 -- the tape of what an area holds; no bytes where something was lost
-unfoldable pub tapeOf : Paper → List ℕ
+unfoldable pub tapeOf : Area → List ℕ
 tapeOf P =
     elim (isWhole P) [
       | true ↦ le 4 (P .out .n) ++ (le 4 (P .out .t) ++ (codesIn P ++ (valuesIn P ++ textIn P)))
@@ -127,7 +131,7 @@ tapeOf P =
     ]
 
 -- a buffer that the tape is written to, with zeros behind it
-unfoldable pub finishedIn : Paper → List ℕ → List ℕ
+unfoldable pub finishedIn : Area → List ℕ → List ℕ
 finishedIn P result = zeroed (sets result 0 (tapeOf P)) (length (tapeOf P))
 
 -- ------------------------------------------------------------------ entries that were written
@@ -136,19 +140,19 @@ abbrev pub fitsArea : List Entry → Bool
 fitsArea es = fitsSizes (length es) (length (textOf es))
 
 -- es stands in the area, and nothing else
-pub record Holds (P : Paper) (es : List Entry) : Type 0 where
+pub record Holds (P : Area) (es : List Entry) : Type 0 where
   pub entries : P .out .n ≡ length es
   pub bytes : P .out .t ≡ length (textOf es)
   pub stands : Stands (P .bytes) (P .out .base) (P .out .base + 1024) (P .out .base + 9216) 0 0 es
 
 -- es was written: its area, which the slice has, holds it, or it is lost since it does not fit
-pub record OutIs (P : Paper) (es : List Entry) : Type 0 where
+pub record OutIs (P : Area) (es : List Entry) : Type 0 where
   pub whole : P .out .base + 12288 ≤ length (P .bytes)
   pub loses : P .out .lost ≡ not (fitsArea es)
   pub holds : fitsArea es ≡ true → Holds P es
 
 -- from P to Q the slice changed within P's area alone
-pub record Within (P Q : Paper) : Type 0 where
+pub record Within (P Q : Area) : Type 0 where
   pub base : Q .out .base ≡ P .out .base
   pub kept : Kept (P .out .base) (P .out .base + 12288) (P .bytes) (Q .bytes)
 

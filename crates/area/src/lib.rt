@@ -11,7 +11,7 @@ ghost use lib.Seq.{sets};
 ghost use Rattle.format.specs.Entry.{le};
 ghost use Rattle.format.specs.Stands.{part};
 ghost use Rattle.buffer.specs.Buffer.{Decides};
-ghost use Rattle.area.specs.Area.{paper, gone, grown, headed, RoomFor, appendIn, putIn, putTextIn, generated, appendOutIn, patchIn, finishedIn};
+ghost use Rattle.area.specs.Area.{areaIn, emptyAt, overfull, grown, headed, RoomFor, appendIn, putIn, putTextIn, generated, appendOutIn, patchIn, finishedIn};
 
 // A writer's state: its area's base, how many entries and text bytes stand there, and whether they were too many.
 pub struct Out {
@@ -21,9 +21,21 @@ pub struct Out {
     pub lost: bool,
 }
 
+// The writer of an area with nothing in it.
+pub fn empty(base: usize) -> Out
+    ensures { λ r. ⌜ r ≡ emptyAt base ⌝ }
+{
+    Out {
+        base,
+        n: 0,
+        t: 0,
+        lost: false,
+    }
+}
+
 // The writer whose entries were too many.
 fn lose(out: Out) -> Out
-    ensures { λ r. ⌜ r ≡ gone out ⌝ }
+    ensures { λ r. ⌜ r ≡ overfull out ⌝ }
 {
     Out {
         base: out.base,
@@ -74,7 +86,7 @@ fn has_room(size: usize, out: Out, entries: usize, bytes: usize) -> bool
 // Writes the codes and values of entries whose text, of `bytes` bytes, stands there already.
 fn write_heads(s: &mut [u8], out: Out, codes: &[u8], values: &[u8], bytes: usize) -> Out
     requires { ⌜ RoomFor (length (now s)) out (length (now codes)) bytes ⌝ }
-    ensures { λ r. ⌜ paper r (now (s .exit)) ≡ paper (grown out (length (now (codes .entry))) bytes) (headed (now (s .entry)) out (now (codes .entry)) (now (values .entry))) ⌝ }
+    ensures { λ r. ⌜ areaIn r (now (s .exit)) ≡ areaIn (grown out (length (now (codes .entry))) bytes) (headed (now (s .entry)) out (now (codes .entry)) (now (values .entry))) ⌝ }
 {
     let base = out.base;
     let n = out.n;
@@ -91,7 +103,7 @@ fn write_heads(s: &mut [u8], out: Out, codes: &[u8], values: &[u8], bytes: usize
 // Writes a run for which there is room.
 fn write_run(s: &mut [u8], out: Out, codes: &[u8], values: &[u8], text: &[u8]) -> Out
     requires { ⌜ RoomFor (length (now s)) out (length (now codes)) (length (now text)) × (length (now values) ≡ 8 * length (now codes)) ⌝ }
-    ensures { λ r. ⌜ paper r (now (s .exit)) ≡ appendIn (now (codes .entry)) (now (values .entry)) (now (text .entry)) (paper out (now (s .entry))) ⌝ }
+    ensures { λ r. ⌜ areaIn r (now (s .exit)) ≡ appendIn (now (codes .entry)) (now (values .entry)) (now (text .entry)) (areaIn out (now (s .entry))) ⌝ }
 {
     buffer::write(s, out.base + 9216 + out.t, text);
     write_heads(s, out, codes, values, text.len())
@@ -112,7 +124,7 @@ fn has_run_room(size: usize, out: Out, codes: usize, values: usize, text: usize)
 
 // Appends a run of entries, given as the three parts of a tape that spell it.
 pub fn append_run(s: &mut [u8], out: Out, codes: &[u8], values: &[u8], text: &[u8]) -> Out
-    ensures { λ r. ⌜ paper r (now (s .exit)) ≡ appendIn (now (codes .entry)) (now (values .entry)) (now (text .entry)) (paper out (now (s .entry))) ⌝ }
+    ensures { λ r. ⌜ areaIn r (now (s .exit)) ≡ appendIn (now (codes .entry)) (now (values .entry)) (now (text .entry)) (areaIn out (now (s .entry))) ⌝ }
 {
     if has_run_room(s.len(), out, codes.len(), values.len(), text.len()) {
         write_run(s, out, codes, values, text)
@@ -123,14 +135,14 @@ pub fn append_run(s: &mut [u8], out: Out, codes: &[u8], values: &[u8], text: &[u
 
 // Appends an entry without text.
 pub fn put(s: &mut [u8], out: Out, code: u8, value: u64) -> Out
-    ensures { λ r. ⌜ paper r (now (s .exit)) ≡ putIn code value (paper out (now (s .entry))) ⌝ }
+    ensures { λ r. ⌜ areaIn r (now (s .exit)) ≡ putIn code value (areaIn out (now (s .entry))) ⌝ }
 {
     append_run(s, out, &[code], &buffer::value_bytes(value), b"")
 }
 
 // Appends an entry with text; its value is the text's length.
 pub fn put_text(s: &mut [u8], out: Out, code: u8, text: &[u8]) -> Out
-    ensures { λ r. ⌜ paper r (now (s .exit)) ≡ putTextIn code (now (text .entry)) (paper out (now (s .entry))) ⌝ }
+    ensures { λ r. ⌜ areaIn r (now (s .exit)) ≡ putTextIn code (now (text .entry)) (areaIn out (now (s .entry))) ⌝ }
 {
     append_run(
         s,
@@ -158,7 +170,7 @@ fn write_generated(text: &mut [u8], name: &[u8], start: u32)
 // Appends an entry with a generated name of `bytes` bytes, for which there is room.
 fn generate(s: &mut [u8], out: Out, code: u8, name: &[u8], start: u32, bytes: usize) -> Out
     requires { ⌜ RoomFor (length (now s)) out 1 bytes × (bytes ≡ length (generated (now name) start)) ⌝ }
-    ensures { λ r. ⌜ paper r (now (s .exit)) ≡ putTextIn code (generated (now (name .entry)) start) (paper out (now (s .entry))) ⌝ }
+    ensures { λ r. ⌜ areaIn r (now (s .exit)) ≡ putTextIn code (generated (now (name .entry)) start) (areaIn out (now (s .entry))) ⌝ }
 {
     let from = out.base + 9216 + out.t;
     let end = from + bytes;
@@ -168,7 +180,7 @@ fn generate(s: &mut [u8], out: Out, code: u8, name: &[u8], start: u32, bytes: us
 
 // Appends an entry whose text is `name`, `$` and `start` in decimal.
 pub fn put_generated(s: &mut [u8], out: Out, code: u8, name: &[u8], start: u32) -> Out
-    ensures { λ r. ⌜ paper r (now (s .exit)) ≡ putTextIn code (generated (now (name .entry)) start) (paper out (now (s .entry))) ⌝ }
+    ensures { λ r. ⌜ areaIn r (now (s .exit)) ≡ putTextIn code (generated (now (name .entry)) start) (areaIn out (now (s .entry))) ⌝ }
 {
     let bytes = name.len() + 1 + buffer::digit_count(start);
     if has_room(s.len(), out, 1, bytes) {
@@ -181,7 +193,7 @@ pub fn put_generated(s: &mut [u8], out: Out, code: u8, name: &[u8], start: u32) 
 // Appends all that an area holds, one of another slice.
 fn append_whole(s: &mut [u8], out: Out, from: &[u8], other: Out) -> Out
     requires { ⌜ RoomFor (length (now from)) other 0 0 ⌝ }
-    ensures { λ r. ⌜ paper r (now (s .exit)) ≡ appendOutIn (paper other (now (from .entry))) (paper out (now (s .entry))) ⌝ }
+    ensures { λ r. ⌜ areaIn r (now (s .exit)) ≡ appendOutIn (areaIn other (now (from .entry))) (areaIn out (now (s .entry))) ⌝ }
 {
     let codes = other.base;
     let values = codes + 1024;
@@ -197,7 +209,7 @@ fn append_whole(s: &mut [u8], out: Out, from: &[u8], other: Out) -> Out
 
 // Appends all that was written to another area, one of another slice.
 pub fn append_out(s: &mut [u8], out: Out, from: &[u8], other: Out) -> Out
-    ensures { λ r. ⌜ paper r (now (s .exit)) ≡ appendOutIn (paper other (now (from .entry))) (paper out (now (s .entry))) ⌝ }
+    ensures { λ r. ⌜ areaIn r (now (s .exit)) ≡ appendOutIn (areaIn other (now (from .entry))) (areaIn out (now (s .entry))) ⌝ }
 {
     if has_room(from.len(), other, 0, 0) {
         append_whole(s, out, from, other)
@@ -209,7 +221,7 @@ pub fn append_out(s: &mut [u8], out: Out, from: &[u8], other: Out) -> Out
 // Adds to the value of an entry that the area holds.
 fn add_value(s: &mut [u8], out: Out, index: usize, added: u64)
     requires { ⌜ RoomFor (length (now s)) out 0 0 × (index < out .n) ⌝ }
-    ensures { λ _. ⌜ paper out (now (s .exit)) ≡ patchIn index added (paper out (now (s .entry))) ⌝ }
+    ensures { λ _. ⌜ areaIn out (now (s .exit)) ≡ patchIn index added (areaIn out (now (s .entry))) ⌝ }
 {
     let at = out.base + 1024 + 8 * index;
     let value = std::num::wrapping_add_u64(buffer::read_value(s, at), added);
@@ -218,7 +230,7 @@ fn add_value(s: &mut [u8], out: Out, index: usize, added: u64)
 
 // Adds to the value of the entry at `index`: a list's count, when items are put behind it.
 pub fn patch_count(s: &mut [u8], out: Out, index: usize, added: u64)
-    ensures { λ _. ⌜ paper out (now (s .exit)) ≡ patchIn index added (paper out (now (s .entry))) ⌝ }
+    ensures { λ _. ⌜ areaIn out (now (s .exit)) ≡ patchIn index added (areaIn out (now (s .entry))) ⌝ }
 {
     if index < out.n {
         if has_room(s.len(), out, 0, 0) {
@@ -246,7 +258,7 @@ fn write_section(result: &mut [u8], at: usize, s: &[u8], from: usize, count: usi
 // Writes the tape of what an area holds, and zeros behind it.
 fn write_tape(s: &[u8], out: Out, result: &mut [u8])
     requires { ⌜ RoomFor (length (now s)) out 0 0 ⌝ }
-    ensures { λ _. ⌜ now (result .exit) ≡ finishedIn (paper out (now (s .entry))) (now (result .entry)) ⌝ }
+    ensures { λ _. ⌜ now (result .exit) ≡ finishedIn (areaIn out (now (s .entry))) (now (result .entry)) ⌝ }
 {
     let base = out.base;
     let n = out.n;
@@ -260,7 +272,7 @@ fn write_tape(s: &[u8], out: Out, result: &mut [u8])
 
 // Writes the tape of the entries, and zeros behind it; zeros alone where they were too many.
 pub fn finish(s: &[u8], out: Out, result: &mut [u8])
-    ensures { λ _. ⌜ now (result .exit) ≡ finishedIn (paper out (now (s .entry))) (now (result .entry)) ⌝ }
+    ensures { λ _. ⌜ now (result .exit) ≡ finishedIn (areaIn out (now (s .entry))) (now (result .entry)) ⌝ }
 {
     if has_room(s.len(), out, 0, 0) {
         write_tape(s, out, result);

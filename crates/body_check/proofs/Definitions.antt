@@ -10,18 +10,18 @@ use Rattle.format.specs.Flat.{flatParams, flatBody, flatDef}
 use Rattle.format.specs.Limits.{isNode, deepBody}
 use Rattle.definition.specs.Check.{namesOf, checkBody, checkDef}
 use Rattle.definition.proofs.Values.{value-body}
-use Rattle.tape.specs.Node.{named, bodyAt}
+use Rattle.nodes.specs.Node.{named, bodyAt}
 use Rattle.tape.specs.declared.layout.Layout.{Layout}
 use Rattle.tape.specs.declared.layout.Place.{Place}
 use Rattle.tape.proofs.Located.{past, Inside}
-use Rattle.tape.proofs.Placed.{ParamParts, parts-params, past-params, parts-body, parts-def}
-use Rattle.messages.specs.Names.{paramAt, namesAt}
-use Rattle.messages.specs.declared.names.ParamRead.the-variants.{Param}
-use Rattle.body_check.specs.declared.names.Declared.{Declared}
-use Rattle.body_check.specs.Names.{declaredIn}
+use Rattle.nodes.proofs.Placed.{ParamParts, parts-params, past-params, parts-body, parts-def}
+use Rattle.pieces.specs.Names.{paramAt, namesAt}
+use Rattle.pieces.specs.declared.names.ParamRead.the-variants.{Param}
+use Rattle.names.specs.declared.Declared.{Declared}
+use Rattle.names.specs.Names.{declaredIn}
 use Rattle.body_check.specs.Definition.{declaring, bodyIn, onBody, defIn}
-use Rattle.body_check.proofs.Walking.{one-name}
-use Rattle.body_check.proofs.Right.{Finds, passes, ending, right}
+use Rattle.names.proofs.Steps.{one-name}
+use Rattle.body_walk.proofs.Right.{Finds, passes, ending, right}
 
 -- the names of the parameters
 module _ {s : List ℕ} {l : Layout} where

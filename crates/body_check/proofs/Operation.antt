@@ -16,9 +16,9 @@ use Rattle.tape.proofs.Roots.{definition-root, accepted-root, small-nesting}
 use Rattle.answer.specs.Told.{Judges, Concludes}
 use Rattle.answer.specs.declared.Verdict as code
 use Rattle.answer.proofs.Operations.{ends-judged}
-use Rattle.body_check.specs.declared.names.Checked.{Checked}
+use Rattle.names.specs.declared.Checked.{Checked}
 use Rattle.body_check.specs.Definition.{defIn, verdictOf}
-use Rattle.body_check.proofs.Right.{Finds, passes, refuses}
+use Rattle.body_walk.proofs.Right.{Finds, passes, refuses}
 use Rattle.body_check.proofs.Definitions.{def-right}
 
 judges : {s : List ℕ} {l : Layout} {x : Checked} {end : Place} {v : Verdict} → Finds s l x end v → Judges s l (verdictOf x) v

@@ -2,23 +2,20 @@
 -- Assumes nothing.
 use Prim.Native.Nat.{ℕ}
 use mathlib.Core.List.{List}
-use Rattle.tape.specs.Node.{onPlace, headingAt, pastParamsAt, bodyAt}
+use Rattle.nodes.specs.Node.{onPlace, onHeading, headingAt, pastParamsAt, bodyAt}
 use Rattle.tape.specs.declared.layout.Layout.{Layout}
 use Rattle.tape.specs.declared.layout.Place.{Place}
-use Rattle.tape.specs.declared.node.Heading.{Heading}
-use Rattle.tape.specs.declared.node.HeadingRead.{HeadingRead}
-use Rattle.tape.specs.declared.node.HeadingRead.the-variants as hr
-use Rattle.tape.specs.declared.node.BodyNode.{BodyNode}
-use Rattle.tape.specs.declared.node.BodyNode.the-variants as body
-use Rattle.tape.specs.declared.node.BodyRead.{BodyRead}
-use Rattle.tape.specs.declared.node.BodyRead.the-variants as br
+use Rattle.nodes.specs.declared.BodyNode.{BodyNode}
+use Rattle.nodes.specs.declared.BodyNode.the-variants as body
+use Rattle.nodes.specs.declared.BodyRead.{BodyRead}
+use Rattle.nodes.specs.declared.BodyRead.the-variants as br
 use Rattle.answer.specs.declared.Verdict.{Verdict}
 use Rattle.answer.specs.declared.Verdict.the-variants as verdict
-use Rattle.body_check.specs.declared.names.Declared.{Declared}
-use Rattle.body_check.specs.declared.names.Checked.{Checked}
-use Rattle.body_check.specs.declared.names.Checked.the-variants.{Passed, Refused}
-use Rattle.body_check.specs.Names.{silentOf, malformedIn}
-use Rattle.body_check.specs.Walk.{walkers}
+use Rattle.names.specs.declared.Declared.{Declared}
+use Rattle.names.specs.declared.Checked.{Checked}
+use Rattle.names.specs.declared.Checked.the-variants.{Passed, Refused}
+use Rattle.names.specs.Names.{silentOf, malformedIn}
+use Rattle.body_walk.specs.Walk.{walkers}
 
 abbrev pub declaring : Layout → Place → ℕ → Declared
 declaring l params count = record { layout = l; params = params; count = count }
@@ -34,13 +31,9 @@ module _ (s : List ℕ) where
   onBody d (br.Node node next) = bodyIn d node next
   onBody d (br.Refused f) = silentOf f
 
-  abbrev pub onHeading : (Heading → Place → Checked) → HeadingRead → Checked
-  onHeading f (hr.Node heading next) = f heading next
-  onHeading f (hr.Refused r) = malformedIn
-
   unfoldable pub defIn : Layout → Place → Checked
   defIn l p =
-      onHeading
+      onHeading malformedIn
       (λ heading params.
       onPlace malformedIn (λ next. onBody (declaring l params (heading .count)) (bodyAt s l next))
       (pastParamsAt s l params (heading .count)))

@@ -3,16 +3,22 @@ use answer::Answer;
 use answer::Verdict;
 use answer::bare;
 use answer::conclude;
+use body_walk::check_temporal_condition_body;
+use body_walk::check_temporal_value_body;
+use names::Checked;
+use names::Declared;
+use names::malformed;
+use names::silent;
+use nodes::BodyNode;
+use nodes::BodyRead;
+use nodes::HeadingRead;
+use nodes::past_params;
+use nodes::read_body;
+use nodes::read_heading;
 use tape::accept::accept;
 use tape::header::Opened;
 use tape::layout::Layout;
 use tape::layout::Place;
-use tape::node::BodyNode;
-use tape::node::BodyRead;
-use tape::node::HeadingRead;
-use tape::node::past_params;
-use tape::node::read_body;
-use tape::node::read_heading;
 use tape::scan::Skipped;
 ghost use mathlib.Core.List.{[]};
 ghost use mathlib.Core.Path.{_≡_};
@@ -20,16 +26,6 @@ ghost use lib.ListN.{length};
 ghost use Rattle.answer.specs.Told.{told};
 ghost use Rattle.definition.specs.Answers.{checkAnswer};
 ghost use Rattle.body_check.specs.Definition.{bodyIn, defIn, verdictOf};
-
-pub mod body;
-pub mod names;
-
-use crate::body::check_temporal_condition_body;
-use crate::body::check_temporal_value_body;
-use crate::names::Checked;
-use crate::names::Declared;
-use crate::names::malformed;
-use crate::names::silent;
 
 // A Cedar body passes unread.
 fn check_body(s: &[u8], d: Declared, node: BodyNode, next: Place) -> Checked

@@ -1,7 +1,7 @@
 -- Laws of bytes in buffers, for the proofs here and above.
 -- Assumes nothing.
 pub mod Decides
-pub mod Numbers
+mod Numbers
 pub mod Sets
 pub mod Kept
 pub mod Zeros

@@ -7,7 +7,8 @@ use mathlib.Core.Logic.{_≢_}
 use mathlib.Core.List.{List}
 use mathlib.Core.Bool.{Bool, true, false}
 use mathlib.Core.Option.{none, some}
-use lib.Dec.{T, leb, le→leb}
+use borrow.Author.Tests.{le-leb}
+use lib.Dec.{T, leb}
 use Rattle.format.specs.Entry.{encode}
 use Rattle.format.specs.Ast.{Tree, MacroDef}
 use Rattle.format.specs.Flat.{flatTree}
@@ -26,7 +27,7 @@ use Rattle.definition.proofs.Verdicts.{Given, passes, refuses, Numbered
 -- ------------------------------------------------------------------ on trees
 
 -- a number that is allowed is none of the three
-unfoldable pub not-allowed : (k l : ℕ) → allowed l ≡ false → T (allowed k) → k ≢ l
+unfoldable not-allowed : (k l : ℕ) → allowed l ≡ false → T (allowed k) → k ≢ l
 not-allowed k l h t e = subst T h (subst (λ (x : ℕ). T (allowed x)) e t)
 
 pub safe : {o : Outcome Tree} → Leaves FreeTree o → Safe o
@@ -59,14 +60,10 @@ unfolding answer verdict
 verdict-passes tape b none passes p q r = refl
 verdict-passes tape b (some x) (refuses t) p q r = absurd (none-of (x .number) t p q r)
 
-is-true : (b : Bool) → T b → b ≡ true
-is-true true t = refl
-is-true false t = absurd t
-
 passed : (definition : List ℕ) (def : MacroDef) → read definitionRoot definition ≡ Reading.accepted def → Passes definition → checkDef def ≡ none
 unfolding checkAnswer messageAnswer reading
 passed definition def h p =
-    let long : leb 2048 (p .messageLength) ≡ true = is-true (leb 2048 (p .messageLength)) (le→leb 2048 (p .messageLength) (p .long-enough)) in
+    let long : leb 2048 (p .messageLength) ≡ true = le-leb 2048 (p .messageLength) (p .long-enough) in
     verdict-passes _ _ (checkDef def) (numbered-def def) (rw (long, h) at (p .no-20)) (rw (long, h) at (p .no-21)) (rw (long, h) at (p .no-22))
 
 safe-answer : (b : Buffers) (o : Outcome Tree) → Leaves FreeTree o → SafeAnswer b (treeAnswer b o)

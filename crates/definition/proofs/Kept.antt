@@ -15,7 +15,8 @@ use Rattle.format.specs.Limits.{isNode, isCall, deepTree, fitsSizes, fitsDepths
 use Rattle.format.specs.Macro.{isCode}
 use Rattle.format.specs.Tape.{Reading, longestText, shortTexts, smallBody, conditionRoot, definitionRoot, callRoot, registryRoot, read}
 use Rattle.format.proofs.All.{All, all-nil, all-cons, all-head, all-tail, all-left, all-right, all-both, all-map}
-use Rattle.format.proofs.Accepted.{Values64, OnTape, both, accepted-on-tape}
+use Rattle.format.proofs.Accepted.{Values64, OnTape, accepted-on-tape}
+use Rattle.format.proofs.Tests.{and-left, and-right}
 use Rattle.format.proofs.Encodes.{fitting, length-encode}
 use Rattle.format.proofs.Exact.{lawful-condition, lawful-definition, lawful-call, lawful-registry}
 use Rattle.definition.specs.Outcome.{Refusal, Outcome}
@@ -39,8 +40,8 @@ unfolding shortTexts
 short-texts [] h = all-nil
 short-texts (e ∷ es) h =
     let long : ℕ = longestText (isCode (22 ∷ 23 ∷ []) (e .code)) in
-    let q = both (leb (length (e .text)) long) (shortTexts es) h in
-    all-cons (leb→le (length (e .text)) long (q .0)) (short-texts es (q .1))
+    let fits : Bool = leb (length (e .text)) long in
+    all-cons (leb→le (length (e .text)) long (and-left fits _ h)) (short-texts es (and-right fits _ h))
 
 longest : (b : Bool) → longestText b ≤ 255
 unfolding longestText
@@ -81,7 +82,7 @@ short-check : (bytes : List ℕ) (def : MacroDef) → OnTape definitionRoot byte
 unfolding definitionRoot checkDef smallBody flatDef
 short-check bytes def t =
     let texts : All ShortText (flatDef def) = short-texts (flatDef def) (t .texts) in
-    let few = leb→le (length (def .params)) 16 (both (leb (length (def .params)) 16) _ (t .small) .0) in
+    let few = leb→le (length (def .params)) 16 (and-left (leb (length (def .params)) 16) _ (t .small)) in
     let names = declared-params (def .params) (all-left (flatParams (def .params)) _ (all-tail (all-tail (all-tail texts)))) in
     given-body Name (namesOf (def .params))
     (record {
@@ -209,9 +210,9 @@ bounded-tree b limit o f = go (longBuffers b) (λ h. h)
   where
     go : (x : Bool) → (T x → T (longBuffers b)) → Bounded b limit (answer treeTape b (elim x [ true ↦ o | false ↦ bare 1 ]))
     go true h =
-        let q = both (leb 12296 (b .resultLength)) _ (h tt) in
-        let w = both (leb 65536 (b .workLength)) _ (q .1) in
-        f (leb→le 12296 (b .resultLength) (q .0)) (leb→le 2048 (b .messageLength) (w .1))
+        let wide : Bool = leb 12296 (b .resultLength) in
+        f (leb→le 12296 (b .resultLength) (and-left wide _ (h tt)))
+        (leb→le 2048 (b .messageLength) (and-right (leb 65536 (b .workLength)) _ (and-right wide _ (h tt))))
     go false h = bounded-bare treeTape b limit 1
 
 bounded-kept : (b : Buffers) (limit : ℕ) {o : Outcome Tree} → 12296 ≤ b .resultLength → 2048 ≤ b .messageLength

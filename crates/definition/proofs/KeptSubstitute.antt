@@ -32,7 +32,7 @@ Kept limit o = Good (KeptRefusal limit) (λ a n. n ≤ limit) o
 abbrev pub Sized : Entry → Type 0
 Sized e = Name (e .text) × Number (e .value)
 
-pub texts-of : {es : List Entry} → All Sized es → Texts Name es
+texts-of : {es : List Entry} → All Sized es → Texts Name es
 texts-of h = all-map (λ e s. s .0) h
 
 -- no message

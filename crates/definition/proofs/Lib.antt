@@ -6,11 +6,11 @@ pub mod Kept
 pub mod Names
 pub mod Size
 pub mod Decimal
-pub mod Good
+mod Good
 pub mod Values
-pub mod Verdicts
-pub mod FreeWalk
-pub mod Lookup
-pub mod Lengths
-pub mod KeptSubstitute
-pub mod KeptExpand
+mod Verdicts
+mod FreeWalk
+mod Lookup
+mod Lengths
+mod KeptSubstitute
+mod KeptExpand

@@ -10,7 +10,7 @@ use Rattle.format.specs.Flat.{flatTexts, flatUnit, flatInterval, flatWithin, fl
 use Rattle.format.specs.Limits.{isNode, weigh}
 use Rattle.definition.specs.Size.{size, nodesCondition, nodesTerm, nodesAgg, nodesCall, nodesArg, nodesArgs, nodesFields, nodesTerms}
 
-pub size-append : (es fs : List Entry) → size (es ++ fs) ≡ size es + size fs
+size-append : (es fs : List Entry) → size (es ++ fs) ≡ size es + size fs
 unfolding size
 size-append [] fs = omega arith
 size-append (e ∷ es) fs = omega (arith, size-append es fs)
@@ -22,7 +22,7 @@ unfolding size flatTexts isNode weigh
 size-texts [] = refl
 size-texts (t ∷ ts) = omega (arith, size-texts ts)
 
-size-interval : (i : Interval) → size (flatInterval i ∷ []) ≡ 0
+pub size-interval : (i : Interval) → size (flatInterval i ∷ []) ≡ 0
 unfolding size flatInterval flatUnit isNode weigh
 size-interval i = go (i .unit)
   where

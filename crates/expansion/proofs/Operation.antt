@@ -15,10 +15,10 @@ use Rattle.tape.specs.declared.header.Opened.the-variants as opened
 use Rattle.tape.specs.declared.layout.Layout.{Layout}
 use Rattle.tape.proofs.Roots.{registry-root, condition-root, accepted-root}
 use Rattle.substitution.specs.Ends.{buffers, treeEnd, Concludes}
-use Rattle.substitution.specs.declared.maps.Walk.{Walk}
+use Rattle.arguments.specs.declared.maps.Walk.{Walk}
 use Rattle.substitution.proofs.Ending.{long-enough, ends-second, ends-walked}
 use Rattle.expansion.specs.Expansion.{namedIn}
-use Rattle.expansion.specs.Output.{world}
+use Rattle.calls.specs.Output.{progress}
 use Rattle.expansion.proofs.TreesWhole.{expansion-comes}
 
 module _ (r l m limit : ℕ) (registry input : List ℕ) {a : Answer} (long : longBuffers (buffers r l m) ≡ true) (p : Bytes registry) {d : Layout}
@@ -33,7 +33,7 @@ module _ (r l m limit : ℕ) (registry input : List ℕ) {a : Answer} (long : lo
   -- the walk leaves the two buffers as long as they were
   pub expanded : {c : Layout} {w : Walk} (work result bytes final : List ℕ) → limit < 2 ^ 32 → Bytes input → l ≡ length work
       → r ≡ length result → length bytes ≡ length work → length final ≡ length result → acceptOf input 1 ≡ opened.Tape c
-      → world w bytes final ≡ namedIn registry d 255 input c limit work result
+      → progress w bytes final ≡ namedIn registry d 255 input c limit work result
       → Concludes registry d input c w bytes (buffers (length final) (length bytes) m) a
       → a ≡ expandAnswer (buffers r l m) limit registry input
   unfolding expandAnswer expandTapes

@@ -1,174 +1,41 @@
--- What the small functions of an expansion answer, from what they learnt on the way.
+-- What the operation's functions answer, from what they learnt on the way.
 -- Assumes nothing.
 use Prim.Native.Nat.{ℕ}
-use native.Mathlib.Omega.{arith}
-use mathlib.Core.Path.{_≡_, sym, ap, _∙_}
-use mathlib.Core.Bool.{false}
+use mathlib.Core.Path.{_≡_, ap, _∙_}
 use mathlib.Core.List.{List}
-use lib.ListN.{length, getD, List·getD-eq-default}
-use Rattle.tape.specs.Node.{expectAt, headingAt}
-use Rattle.tape.specs.Scan.{skipAt}
 use Rattle.tape.specs.declared.layout.Layout.{Layout}
 use Rattle.tape.specs.declared.layout.Place.{Place}
-use Rattle.tape.specs.declared.node.BodyNode.{BodyNode}
-use Rattle.tape.specs.declared.node.Heading.{Heading}
-use Rattle.tape.specs.declared.node.HeadingRead.{HeadingRead}
-use Rattle.tape.specs.declared.node.HeadingRead.the-variants as hr
-use Rattle.tape.specs.declared.node.Refusal.{Refusal}
-use Rattle.tape.specs.declared.node.ValueRead.{ValueRead}
-use Rattle.tape.specs.declared.node.ValueRead.the-variants as vr
-use Rattle.tape.specs.declared.scan.Skipped.{Skipped}
-use Rattle.area.specs.Area.{Paper, paper, appendOutIn}
-use Rattle.area.specs.declared.Out.{Out}
 use Rattle.messages.specs.declared.Refused.{Refused}
 use Rattle.answer.specs.declared.Verdict.{Verdict}
 use Rattle.answer.specs.declared.Verdict.the-variants as verdict
-use Rattle.body_check.specs.declared.names.Checked.{Checked}
-use Rattle.body_check.specs.declared.names.Checked.the-variants as checked
 use Rattle.registry.specs.Places.{indexAt, buildAt}
-use Rattle.substitution.specs.Output as one
-use Rattle.substitution.specs.Output.{state, going, silentAt, copyIn}
-use Rattle.substitution.specs.Front.{origin, emptyOut, fitsIn}
-use Rattle.substitution.specs.Refines.{foldIn}
-use Rattle.substitution.specs.declared.front.Macro.{Macro}
-use Rattle.substitution.specs.declared.front.MacroRead.{MacroRead}
-use Rattle.substitution.specs.declared.front.MacroRead.the-variants as macro
-use Rattle.substitution.specs.declared.maps.State.{State}
-use Rattle.substitution.specs.declared.maps.Walk.{Walk}
-use Rattle.substitution.specs.declared.maps.Walk.the-variants as walk
-use Rattle.expansion.specs.Concrete.{passedIn}
-use Rattle.expansion.specs.Output.{Reads, World, world, with, onWork, after, keepIn, shapeIn, refoldIn}
-use Rattle.expansion.specs.Calls.{
-  resolveIn,
-  onConditionKind,
-  conditionMacroIn,
-  onValueKind,
-  valueMacroIn,
-  isValue,
-  callsValueIn,
-  applyIn,
-  intoIn,
-  outcomeIn,
-}
-use Rattle.expansion.specs.Walkers.{walkers}
+use Rattle.arguments.specs.Output as one
+use Rattle.arguments.specs.Output.{state}
+use Rattle.area.specs.Area.{emptyAt}
+use Rattle.area.specs.declared.Out.{Out}
+use Rattle.front.specs.Front.{origin, fitsIn}
+use Rattle.arguments.specs.declared.maps.Walk.{Walk}
+use Rattle.arguments.specs.declared.maps.Walk.the-variants as walk
+use Rattle.calls.specs.Output.{Reads, Progress, progress, with, onWork}
+use Rattle.expansion_walk.specs.Walkers.{walkers}
 use Rattle.expansion.specs.Expansion.{wholeIn, readsOf, namedIn}
-use Rattle.expansion.specs.declared.calls.Callee.{Callee}
 
--- ------------------------------------------------------------------ the condition's own entries
-
-pub no-first : (s : List ℕ) → length s ≡ 0 → 0 ≡ getD s 0 0
-no-first s h = sym (List·getD-eq-default s 0 {n = 0} (omega arith))
-
-module _ (cond : List ℕ) (l : Layout) (work : List ℕ) where
-  module _ (st : State) {found : Checked} where
-    pub kept-run : {next : Place} {o : Out} {bytes : List ℕ} → found ≡ checked.Passed next
-        → paper o bytes ≡ copyIn cond l (st .place) next (paper (st .out) work)
-        → one.world (walk.Going (state next o (st .charged))) bytes ≡ keepIn cond l st found work
-    unfolding keepIn
-    kept-run {next} e q = rw e (ap (going next (st .charged)) q)
-
-    pub kept-refusal : {f : Refused} → found ≡ checked.Refused f
-        → one.world (walk.Refused f (st .charged)) work ≡ keepIn cond l st found work
-    unfolding keepIn
-    kept-refusal e = rw e
-
-  module _ (result : List ℕ) (own base : ℕ) (p : Place) {w : Walk} where
-    pub refold-refused : {r : Refused} {k : ℕ} → w ≡ walk.Refused r k
-        → one.world w work ≡ refoldIn cond l result own base p (one.world w work)
-    unfolding refoldIn
-    refold-refused e = rw e
-
-    module _ {st : State} (g : w ≡ walk.Going st) {x : ValueRead} (e : x ≡ expectAt cond l (st .place) 41) where
-      pub refold-unread : {r : Walk} → x ≡ vr.Nothing → r ≡ silentAt 2 0 (st .charged)
-          → one.world r work ≡ refoldIn cond l result own base p (one.world w work)
-      unfolding refoldIn
-      refold-unread q y = rw (g, ← e, q, y)
-
-      pub refold-folded : {count : ℕ} {first : Place} {y : Skipped} {end : Checked} {K Z : one.World} {shape : ℕ}
-          → x ≡ vr.Value count first → y ≡ skipAt cond l (st .place) 20 → end ≡ passedIn y
-          → K ≡ keepIn cond l (state first (st .out) (st .charged)) end work → shape ≡ shapeIn cond l result p
-          → Z ≡ foldIn base count own shape K → Z ≡ refoldIn cond l result own base p (one.world w work)
-      unfolding refoldIn
-      refold-folded q s t k d z = rw (g, ← e, q, ← s, ← t, ← k, ← d) z
-
--- ------------------------------------------------------------------ the macro that is called
-
-module _ (R : Reads) (call : Heading) {m : MacroRead} (p : m ≡ resolveIn R call) {def : Macro} (e : m ≡ macro.Macro def) where
-  pub condition-kind : {k : BodyNode} {x : Callee} → def .kind ≡ k → x ≡ onConditionKind R call def k → x ≡ conditionMacroIn R call
-  unfolding conditionMacroIn
-  condition-kind z x = rw (← p, e) (x ∙ ap (onConditionKind R call def) (sym z))
-
-  pub value-kind : {k : BodyNode} {x : Callee} → def .kind ≡ k → x ≡ onValueKind R call def k → x ≡ valueMacroIn R call
-  unfolding valueMacroIn
-  value-kind z x = rw (← p, e) (x ∙ ap (onValueKind R call def) (sym z))
-
-module _ (R : Reads) (p : Place) {x : ValueRead} (e : x ≡ expectAt (R .condition) (R .layout) p 11) where
-  pub value-none : x ≡ vr.Nothing → false ≡ callsValueIn R p
-  unfolding callsValueIn
-  value-none q = rw (← e, q)
-
-  module _ {v : ℕ} {call : Place} (q : x ≡ vr.Value v call) {h : HeadingRead} (g : h ≡ headingAt (R .condition) (R .layout) call 54) where
-    pub value-unread : {f : Refusal} → h ≡ hr.Refused f → false ≡ callsValueIn R p
-    unfolding callsValueIn
-    value-unread y = rw (← e, q, ← g, y)
-
-    module _ {head : Heading} {first : Place} (y : h ≡ hr.Node head first) {m : MacroRead} (r : m ≡ resolveIn R head) where
-      pub value-unknown : m ≡ macro.Nothing → false ≡ callsValueIn R p
-      unfolding callsValueIn
-      value-unknown z = rw (← e, q, ← g, y, ← r, z)
-
-      pub value-by-kind : {def : Macro} {k : BodyNode} → m ≡ macro.Macro def → def .kind ≡ k → isValue R k ≡ callsValueIn R p
-      unfolding callsValueIn
-      value-by-kind z k = rw (← e, q, ← g, y, ← r, z) (ap (isValue R) (sym k))
-
--- ------------------------------------------------------------------ what a call becomes
-
-module _ (out : Out) (next : Place) (work result : List ℕ) {w : Walk} where
-  pub into-refused : {r : Refused} {k : ℕ} → w ≡ walk.Refused r k → world w work result ≡ intoIn out next work (one.world w result)
-  unfolding intoIn
-  into-refused e = rw e
-
-  pub into-made : {made : State} {o : Out} {bytes : List ℕ} → w ≡ walk.Going made
-      → paper o bytes ≡ appendOutIn (paper (made .out) result) (paper out work)
-      → world (walk.Going (state next o (made .charged))) bytes result ≡ intoIn out next work (one.world w result)
-  unfolding intoIn
-  into-made {made} e q = rw e (ap (λ (P : Paper). world (walk.Going (state next (P .out) (made .charged))) (P .bytes) result) q)
-
-module _ (reg : List ℕ) (d : Layout) (limit : ℕ) (def : Macro) (call : Heading) (out : Out) (w : Walk) (work result : List ℕ) {f : Walk}
-    (q : one.world f work ≡ fitsIn (call .span) 11 (one.world w work)) where
-  fitted : after (λ filled bytes final. intoIn out (filled .place) bytes (applyIn reg d limit bytes def call filled final)) (world f work result)
-      ≡ outcomeIn reg d limit def call out (world w work result)
-  unfolding outcomeIn
-  fitted =
-      ap
-      (λ (Y : one.World).
-      after (λ filled bytes final. intoIn out (filled .place) bytes (applyIn reg d limit bytes def call filled final)) (with result Y))
-      q
-
-  pub outcome-refused : {r : Refused} {k : ℕ} → f ≡ walk.Refused r k
-      → world f work result ≡ outcomeIn reg d limit def call out (world w work result)
-  outcome-refused e = rw e (rw e at fitted)
-
-  pub outcome-made : {filled : State} {Y : one.World} {Z : World} → f ≡ walk.Going filled → Y ≡ applyIn reg d limit work def call filled result
-      → Z ≡ intoIn out (filled .place) work Y → Z ≡ outcomeIn reg d limit def call out (world w work result)
-  outcome-made {filled} e y z = z ∙ ap (intoIn out (filled .place) work) y ∙ (rw e at fitted)
-
--- ------------------------------------------------------------------ the whole
-
-pub whole-walked : (R : Reads) (work result : List ℕ) {w r : Walk} {bytes final : List ℕ}
-    → world w bytes final ≡ walkers R 64 .condition (world (walk.Going (state origin emptyOut 0)) work result)
-    → one.world r bytes ≡ fitsIn 0 1 (one.world w bytes) → world r bytes final ≡ wholeIn R work result
+pub whole-walked : (R : Reads) (work result : List ℕ) {w r : Walk} {bytes final : List ℕ} {out : Out} → out ≡ emptyAt 0
+    → progress w bytes final ≡ walkers R 64 .condition (progress (walk.Going (state origin out 0)) work result)
+    → one.progress r bytes ≡ fitsIn 0 1 (one.progress w bytes) → progress r bytes final ≡ wholeIn R work result
 unfolding wholeIn
-whole-walked R work result {final = final} x f = ap (with final) f ∙ ap (onWork (fitsIn 0 1)) x
+whole-walked R work result {final = final} e x f =
+    ap (with final) f
+    ∙ ap (onWork (fitsIn 0 1)) (x ∙ ap (λ (o : Out). walkers R 64 .condition (progress (walk.Going (state origin o 0)) work result)) e)
 
 module _ (reg : List ℕ) (d : Layout) (room : ℕ) (cond : List ℕ) (c : Layout) (limit : ℕ) (work result : List ℕ) {ps : List Place}
     (i : ps ≡ indexAt reg d room) {v : Verdict} (b : v ≡ buildAt reg d ps) where
-  pub named-walked : {X : World} → v ≡ verdict.Passes → X ≡ wholeIn (readsOf reg d ps cond c limit) work result
+  pub named-walked : {X : Progress} → v ≡ verdict.Passes → X ≡ wholeIn (readsOf reg d ps cond c limit) work result
       → X ≡ namedIn reg d room cond c limit work result
   unfolding namedIn
   named-walked e x = rw (← i, ← b, e) x
 
   pub named-refused : {f : Refused} → v ≡ verdict.Refused f
-      → world (walk.Refused f 0) work result ≡ namedIn reg d room cond c limit work result
+      → progress (walk.Refused f 0) work result ≡ namedIn reg d room cond c limit work result
   unfolding namedIn
   named-refused e = rw (← i, ← b, e)

@@ -14,46 +14,45 @@ use Rattle.format.specs.Limits.{isNode, isCall, deepCondition, deepTree, fitsDe
 use Rattle.format.specs.Tape.{conditionRoot, registryRoot}
 use Rattle.definition.specs.Check as definition
 use Rattle.definition.specs.Check.{contains}
-use Rattle.definition.specs.Outcome.{refusal, Outcome, pure, proceed, _>>_, openOutcome}
+use Rattle.definition.specs.Outcome.{Outcome, pure, proceed, _>>_, openOutcome}
 use Rattle.definition.specs.Registry.{reservedNames, build}
 use Rattle.definition.specs.Substitute.{checkLimits}
 use Rattle.definition.specs.Expand.{Registry, unless, expandWhole, expand}
 use Rattle.tape.specs.Pick.{pick}
 use Rattle.tape.specs.Layouts.{areaLayout}
-use Rattle.tape.specs.Node.{headingAt, nameAt}
+use Rattle.nodes.specs.Node.{onHeading, headingAt, nameAt}
 use Rattle.tape.specs.Scan.{tooDeep}
 use Rattle.tape.specs.declared.layout.Layout.{Layout}
 use Rattle.tape.specs.declared.layout.Place.{Place}
-use Rattle.tape.specs.declared.node.Heading.{Heading}
-use Rattle.tape.specs.declared.node.HeadingRead.{HeadingRead}
-use Rattle.tape.specs.declared.node.HeadingRead.the-variants as hr
+use Rattle.nodes.specs.declared.Heading.{Heading}
+use Rattle.nodes.specs.declared.HeadingRead.{HeadingRead}
+use Rattle.nodes.specs.declared.HeadingRead.the-variants as hr
 use Rattle.tape.proofs.Located.{Inside, accepted-inside}
 use Rattle.tape.proofs.Roots.{Accepted, condition-root, registry-root, nesting-64}
-use Rattle.tape.proofs.Tests.{and-right}
+use Rattle.format.proofs.Tests.{and-right}
 use Rattle.tape.proofs.Trees.{passes-condition}
-use Rattle.area.specs.Area.{Paper, paper, fitsArea}
+use Rattle.area.specs.Area.{Area, areaIn, emptyAt, fitsArea}
 use Rattle.messages.specs.Reason.{refusedAt, messageOf}
 use Rattle.messages.specs.declared.Reason.the-variants.{Silent, Reserved}
 use Rattle.answer.specs.Told.{Judges}
 use Rattle.answer.specs.declared.Verdict.{Verdict}
 use Rattle.answer.specs.declared.Verdict.the-variants.{Passes, Refused}
-use Rattle.registry.specs.Places.{onHeading, duplicateOf, thenTake, getAt, nameCheck, checkAt, buildFromAt, buildAt, indexAt}
+use Rattle.registry.specs.Places.{duplicateOf, thenTake, getAt, nameCheck, checkAt, buildFromAt, buildAt, indexAt}
 use Rattle.registry.specs.declared.Found.{Found}
 use Rattle.registry.specs.declared.Found.the-variants as found
 use Rattle.registry.proofs.Standing.{indexed-registry, few-defs}
 use Rattle.registry.proofs.Judging.{build-judges}
-use Rattle.substitution.specs.Output as one
-use Rattle.substitution.specs.Output.{silentAt}
-use Rattle.substitution.specs.Front.{origin, emptyOut, fitsIn}
+use Rattle.arguments.specs.Output as one
+use Rattle.arguments.specs.Output.{silentAt}
+use Rattle.front.specs.Front.{origin, fitsIn}
 use Rattle.substitution.specs.Ends.{Comes}
-use Rattle.substitution.proofs.TreesGives.{Written, written-none}
-use Rattle.substitution.proofs.TreesFront.{too-large}
-use Rattle.expansion.specs.Output.{Reads, World, onWork}
+use Rattle.parameters.proofs.TreesGives.{Written, written-none}
+use Rattle.front.proofs.TreesFront.{too-large, small-fits}
+use Rattle.calls.specs.Output.{Reads, Progress, onWork}
 use Rattle.expansion.specs.Expansion.{wholeIn, onVerdict, readsOf, namedIn}
-use Rattle.expansion.proofs.TreesGives.{going, Ready, Gives, gives, refuses}
-use Rattle.expansion.proofs.TreesResolve.{Settled, settled-of}
-use Rattle.substitution.proofs.TreesAccepted.{small-fits}
-use Rattle.expansion.proofs.TreesRight.{right}
+use Rattle.calls.proofs.TreesGives.{Ready, Gives, gives, refuses}
+use Rattle.calls.proofs.TreesResolve.{Settled, settled-of}
+use Rattle.expansion_walk.proofs.TreesRight.{right}
 
 -- ------------------------------------------------------------------ the names of a registry
 
@@ -96,27 +95,27 @@ calls-4 nodes calls t = leb→le calls 4 (and-right (leb nodes 64) _ t)
 
 -- ------------------------------------------------------------------ how an expansion ends
 
-large-is : (c : Condition) {Q : Paper} → Written Q (flatCondition c)
+large-is : (c : Condition) {Q : Area} → Written Q (flatCondition c)
     → (Q .out .lost || tooDeep (Q .bytes) (areaLayout (Q .out .base) (Q .out .n) (Q .out .t)) 1) ≡ tooLargeTree (Tree.condition c)
 unfolding tooLargeTree flatTree deepTree
 large-is c w = too-large (passes-condition c) (omega arith) w
 
 module _ (R : Reads) where
   -- what came of the walk, among the two tapes
-  abbrev End : World → Outcome Tree → Type 0
+  abbrev End : Progress → Outcome Tree → Type 0
   End X o = Comes (R .registry) (R .definitions) (R .condition) (R .layout) (X .walk) (X .work) o
 
   -- 3 if the whole result is too large
-  limited : (c : Condition) (k : ℕ) (b : Bool) (end : Place) {Q : Paper} → Written Q (flatCondition c)
+  limited : (c : Condition) (k : ℕ) (b : Bool) (end : Place) {Q : Area} → Written Q (flatCondition c)
       → (b ≡ false → fitsArea (flatCondition c) ≡ true)
-      → let Y : one.World = pick b (one.world (silentAt 3 0 k) (Q .bytes)) (one.going end k Q) in
+      → let Y : one.Progress = pick b (one.progress (silentAt 3 0 k) (Q .bytes)) (one.going end k Q) in
       Comes (R .registry) (R .definitions) (R .condition) (R .layout) (Y .walk) (Y .bytes)
       (proceed (checkLimits b 0 k) (λ u. pure (Tree.condition c)))
   unfolding Comes checkLimits openOutcome messageOf flatTree
   limited c k true end w f = (refl, record { its-number = refl; its-span = refl; its-message = refl })
   limited c k false end w f = (refl, w .out, f refl)
 
-  ends : {Also : List ℕ → Condition → Type 0} {P : Paper} {X : World} {end : Place} {o : Outcome Condition}
+  ends : {Also : List ℕ → Condition → Type 0} {P : Area} {X : Progress} {end : Place} {o : Outcome Condition}
       → Gives R Also flatCondition P [] X end o
       → End (onWork (fitsIn 0 1) X)
       (proceed o (λ c. checkLimits (tooLargeTree (Tree.condition c)) 0 >> pure (Tree.condition c)))
@@ -131,7 +130,7 @@ module _ (R : Reads) where
     whole-comes : End (wholeIn R work result) (expandWhole reg t 0)
     unfolding wholeIn expandWhole openOutcome
     whole-comes =
-        ends (right S 64 .condition t 0 {P = paper emptyOut work} h nodes (omega (arith, calls), room) ready
+        ends (right S 64 .condition t 0 {P = areaIn (emptyAt 0) work} h nodes (omega (arith, calls), room) ready
         (written-none 0 work (omega (arith, room)) (omega arith)))
 
     -- 10 and 11 before it
@@ -153,7 +152,7 @@ module _ (R : Reads) where
 pub expansion-comes : (limit : ℕ) {reg cond : List ℕ} {d c : Layout} (defs : List MacroDef) (t : Condition) → Accepted registryRoot reg d defs
     → Accepted conditionRoot cond c t
     → (work result : List ℕ) → 65536 ≤ length work → 12288 ≤ length result
-    → let X : World = namedIn reg d 255 cond c limit work result in Comes reg d cond c (X .walk) (X .work) (expand limit defs t)
+    → let X : Progress = namedIn reg d 255 cond c limit work result in Comes reg d cond c (X .walk) (X .work) (expand limit defs t)
 unfolding registryRoot conditionRoot namedIn expand buildAt
 expansion-comes limit {reg} {cond} {d} {c} defs t h g work result room ready =
     let i = accepted-inside registry-root h in

@@ -1,17 +1,17 @@
 // The expansion of macros/mod.rs (document 01, module 7): a condition, and the registry of the macros that it calls.
-use crate::output::Context;
-use crate::walk::expand_temporal_condition;
 use answer::Answer;
 use answer::Verdict;
-use area::Out;
+use area::empty;
+use arguments::maps::State;
+use arguments::maps::Walk;
+use calls::output::Context;
+use expansion_walk::expand_condition;
+use front::fits;
 use registry::build_index;
 use registry::index;
 use substitution::ends::conclude;
 use substitution::ends::long_buffers;
 use substitution::ends::refuse_bare;
-use substitution::front::fits;
-use substitution::maps::State;
-use substitution::maps::Walk;
 use tape::accept::accept;
 use tape::header::Opened;
 use tape::layout::Layout;
@@ -22,13 +22,8 @@ ghost use lib.ListN.{length};
 ghost use Rattle.answer.specs.Told.{told};
 ghost use Rattle.definition.specs.Answers.{expandAnswer};
 ghost use Rattle.substitution.specs.Ends.{buffers};
-ghost use Rattle.expansion.specs.Output.{reads, world};
+ghost use Rattle.calls.specs.Output.{reads, progress};
 ghost use Rattle.expansion.specs.Expansion.{wholeIn, namedIn};
-
-pub mod calls;
-pub mod concrete;
-pub mod output;
-pub mod walk;
 
 // The walk over the whole condition, and 3 with 0..0 if what it came to is too large.
 fn expand_whole(
@@ -39,20 +34,15 @@ fn expand_whole(
     result: &mut [u8],
     x: Context,
 ) -> Walk
-    ensures { λ r. ⌜ world r (now (work .exit)) (now (result .exit)) ≡ wholeIn (reads (now (reg .entry)) (now (places .entry)) (now (cond .entry)) x) (now (work .entry)) (now (result .entry)) ⌝ }
+    ensures { λ r. ⌜ progress r (now (work .exit)) (now (result .exit)) ≡ wholeIn (reads (now (reg .entry)) (now (places .entry)) (now (cond .entry)) x) (now (work .entry)) (now (result .entry)) ⌝ }
 {
-    let out = Out {
-        base: 0,
-        n: 0,
-        t: 0,
-        lost: false,
-    };
+    let out = empty(0);
     let start = State {
         place: Place { at: 0, text: 0 },
         out,
         charged: 0,
     };
-    let w = expand_temporal_condition(64, reg, places, cond, work, result, x, Walk::Going(start));
+    let w = expand_condition(64, reg, places, cond, work, result, x, Walk::Going(start));
     fits(0, 1, work, w)
 }
 
@@ -67,7 +57,7 @@ fn expand_named(
     work: &mut [u8],
     result: &mut [u8],
 ) -> Walk
-    ensures { λ r. ⌜ world r (now (work .exit)) (now (result .exit)) ≡ namedIn (now (reg .entry)) d (length (now (places .entry)) / 2) (now (cond .entry)) c limit (now (work .entry)) (now (result .entry)) ⌝ }
+    ensures { λ r. ⌜ progress r (now (work .exit)) (now (result .exit)) ≡ namedIn (now (reg .entry)) d (length (now (places .entry)) / 2) (now (cond .entry)) c limit (now (work .entry)) (now (result .entry)) ⌝ }
 {
     let count = index(reg, d, places);
     match build_index(reg, d, places, count) {
@@ -94,7 +84,7 @@ fn expand_tapes(
     work: &mut [u8],
     result: &mut [u8],
 ) -> Walk
-    ensures { λ r. ⌜ world r (now (work .exit)) (now (result .exit)) ≡ namedIn (now (reg .entry)) d 255 (now (cond .entry)) c limit (now (work .entry)) (now (result .entry)) ⌝ }
+    ensures { λ r. ⌜ progress r (now (work .exit)) (now (result .exit)) ≡ namedIn (now (reg .entry)) d 255 (now (cond .entry)) c limit (now (work .entry)) (now (result .entry)) ⌝ }
 {
     let mut places = [0usize; 510];
     expand_named(reg, d, &mut places, cond, c, limit, work, result)

@@ -16,6 +16,7 @@ use Rattle.format.specs.Build.{Stack, build}
 use Rattle.format.specs.Tape.{Reading, fromLe, isText, textWidth, cons, takeEntry, split, printable, readText, readSections, readSizes, readTape, Root, readLimits, readRoot, readStack, readTree, read, Bytes}
 use Rattle.format.proofs.All.{All, all-nil, all-cons}
 use Rattle.format.proofs.Spells.{flatStack, Spells, s-at-root, build-spells}
+use Rattle.format.proofs.Tests.{and-left, and-right}
 
 -- ------------------------------------------------------------------ what is said of a tape's entries
 
@@ -35,10 +36,6 @@ pub record OnTape {A : Type 0} (root : Root A) (bytes : List ℕ) (a : A) : Type
   pub texts : T (root .texts (root .flat a))
   pub small : T (root .small a)
 
-pub both : (a b : Bool) → T (a && b) → T a × T b
-both true b h = (tt, h)
-both false b h = absurd h
-
 -- ------------------------------------------------------------------ numbers in bytes
 
 low : (b r : ℕ) → b < 256 → (b + 256 * r) % 256 ≡ b
@@ -47,7 +44,7 @@ low b r h = omega arith
 high : (b r : ℕ) → b < 256 → (b + 256 * r) / 256 ≡ r
 high b r h = omega arith
 
-pub le-fromLe : (bs : List ℕ) → Bytes bs → le (length bs) (fromLe bs) ≡ bs
+le-fromLe : (bs : List ℕ) → Bytes bs → le (length bs) (fromLe bs) ≡ bs
 unfolding le fromLe
 le-fromLe [] h = refl
 le-fromLe (b ∷ bs) h = rw (low b (fromLe bs) (h .0), high b (fromLe bs) (h .0), le-fromLe bs (h .1)) refl
@@ -245,7 +242,7 @@ module _ {A : Type 0} (root : Root A) (sound : Spells (root .flat) [] (root .rea
             | _∷_ i more ↦ Reading.malformed
           ])
       go (i ∷ more) k = was-malformed
-      go [] k = limited (root .texts es && root .small (r .0)) (both (root .texts es) (root .small (r .0)))
+      go [] k = limited (root .texts es && root .small (r .0)) (λ t. (and-left (root .texts es) _ t, and-right (root .texts es) _ t))
         where
           limited : (b : Bool) → (T b → T (root .texts es) × T (root .small (r .0))) → Accepts (Rooting root es) (readLimits b (r .0))
           limited true q =

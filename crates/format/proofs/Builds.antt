@@ -5,7 +5,8 @@ use mathlib.Core.Path.{_≡_, refl, _∙_, ap}
 use mathlib.Core.List.{List, [], _∷_, _++_, append-assoc}
 use mathlib.Core.Bool.{Bool, true, false}
 use mathlib.Core.Option.{Option, some}
-use lib.Dec.{T, eqb, eqb-refl}
+use borrow.Author.Tests.{eq-eqb}
+use lib.Dec.{eqb}
 use lib.ListN.{length}
 use Rattle.format.specs.Entry.{Text, Entry, entry, textEntry}
 use Rattle.format.specs.Ast.{TimeUnit, Interval, WithinSpec, BinderSlot, BinderType, TypedBinder, Sigil, CmpOp, ArithOp, Condition, Term, AggExpr, Call, CallArg, CallArgs, NamedArgs, Terms, Tree, MacroParam, MacroBody, MacroDef}
@@ -15,11 +16,7 @@ use Rattle.format.specs.Tape.{Root, conditionRoot, callRoot, definitionR
 use Rattle.format.proofs.All.{All, all-nil, all-cons, all-append}
 
 eqb-self : (n : ℕ) → eqb n n ≡ true
-eqb-self n = go (eqb n n) (eqb-refl n)
-  where
-    go : (b : Bool) → T b → b ≡ true
-    go true t = refl
-    go false t = absurd t
+eqb-self n = eq-eqb n n refl
 
 build-append : (start : Option Stack) (es fs : List Entry) → buildOn start (es ++ fs) ≡ buildOn (buildOn start fs) es
 unfolding buildOn

@@ -5,9 +5,10 @@ use native.Mathlib.Nat.{pow-suc}
 use native.Mathlib.Omega.{arith}
 use mathlib.Core.Path.{_≡_, refl, sym, _∙_, ap}
 use mathlib.Core.List.{List, [], _∷_, _++_, append-assoc}
-use mathlib.Core.Bool.{Bool, true, false, _&&_}
+use mathlib.Core.Bool.{Bool, true, _&&_}
 use mathlib.Core.Option.{Option, some}
-use lib.Dec.{T, leb, eqb, le→leb, leb→le, eqb-refl}
+use borrow.Author.Tests.{eq-eqb, le-leb}
+use lib.Dec.{T, leb, leb→le}
 use lib.ListN.{length, drop, length-append}
 use lib.Seq.{take-at, drop-at}
 use Rattle.format.specs.Entry.{Text, Entry, le, codesOf, valuesOf, textOf, encode}
@@ -17,12 +18,9 @@ use Rattle.format.specs.Macro.{isCode}
 use Rattle.format.specs.Limits.{fitsSizes}
 use Rattle.format.specs.Tape.{Reading, fromLe, isText, textWidth, cons, takeEntry, split, printable, readText, readSections, readSizes, readTape, Root, readLimits, readRoot, readStack, readTree, read}
 use Rattle.format.proofs.All.{All, all-nil, all-cons, all-head, all-tail, all-append}
+use Rattle.format.proofs.Tests.{and-left, and-right, is-true}
 use Rattle.format.proofs.Builds.{Rooted}
-use Rattle.format.proofs.Accepted.{length-codes, Values64, InRange, both}
-
-is-true : (b : Bool) → T b → b ≡ true
-is-true true t = refl
-is-true false t = absurd t
+use Rattle.format.proofs.Accepted.{length-codes, Values64, InRange}
 
 -- ------------------------------------------------------------------ numbers in bytes
 
@@ -50,7 +48,7 @@ unfolding takeEntry
 take-back c v x t k =
     let long : length x ≤ length (x ++ t) = omega (arith, length-append x t) in
     let fits : leb (length x) (length (x ++ t)) ≡ true =
-    is-true (leb (length x) (length (x ++ t))) (le→leb (length x) (length (x ++ t)) long) in
+    le-leb (length x) (length (x ++ t)) long in
     rw (fits, takeEntry) (rw (take-at x t (length x) refl, drop-at x t (length x) refl) refl)
 
 split-back : (es : List Entry) → WellTexted es → Values64 es → split (codesOf es) (valuesOf es) (textOf es) ≡ some es
@@ -78,14 +76,10 @@ length-encode es =
       length-values es,
     )
 
-same : (a b : ℕ) → a ≡ b → eqb a b ≡ true
-same a b h = rw h (is-true (eqb b b) (eqb-refl b))
-
 pub fitting : (n t : ℕ) → T (fitsSizes n t) → (n ≤ 1024) × (t ≤ 3072)
 unfolding fitsSizes
 fitting n t h =
-    let q = both (leb n 1024) (leb t 3072) h in
-    (leb→le n 1024 (q .0), leb→le t 3072 (q .1))
+    (leb→le n 1024 (and-left (leb n 1024) _ h), leb→le t 3072 (and-right (leb n 1024) _ h))
 
 module _ (es : List Entry) (w : WellTexted es) (r : InRange es) where
   rest : List ℕ
@@ -103,20 +97,20 @@ module _ (es : List Entry) (w : WellTexted es) (r : InRange es) where
       let all : length (cs ++ (vs ++ t)) ≡ 9 * n + length t = omega (arith, length-append cs (vs ++ t), length-append vs t) in
       let front : length (cs ++ vs) ≡ 9 * n = omega (arith, length-append cs vs) in
       let d : drop (9 * n) (cs ++ (vs ++ t)) ≡ t = rw (← (append-assoc cs vs t)) (drop-at (cs ++ vs) t (9 * n) front) in
-      rw (same (length (cs ++ (vs ++ t))) (9 * n + length t) all, readSections)
+      rw (eq-eqb (length (cs ++ (vs ++ t))) (9 * n + length t) all, readSections)
       (rw (
         d,
         take-at cs (vs ++ t) n c,
         drop-at cs (vs ++ t) n c,
         take-at vs t (8 * n) v,
         split-back es w (r .values),
-        is-true (printable t) (r .text),
+        is-true {b = printable t} (r .text),
       )
       refl)
 
   sizes : readSizes (length es) (length (textOf es)) rest ≡ Reading.accepted es
   unfolding readSizes
-  sizes = rw (is-true (fitsSizes (length es) (length (textOf es))) (r .sizes), readSizes) sections
+  sizes = rw (is-true {b = fitsSizes (length es) (length (textOf es))} (r .sizes), readSizes) sections
 
   -- the entries of a tape are read back from it
   pub tape-back : readTape (encode es) ≡ Reading.accepted es
@@ -126,7 +120,7 @@ module _ (es : List Entry) (w : WellTexted es) (r : InRange es) where
       let long : 8 ≤ length (encode es) = omega arith in
       let n : length es < 256 ^ 4 = omega (arith, f .0) in
       let t : length (textOf es) < 256 ^ 4 = omega (arith, f .1) in
-      rw (is-true (leb 8 (length (encode es))) (le→leb 8 (length (encode es)) long), readTape)
+      rw (le-leb 8 (length (encode es)) long, readTape)
       (rw (fromLe-le 4 (length es) n, fromLe-le 4 (length (textOf es)) t) sizes)
 
 -- ------------------------------------------------------------------ trees are spelled by such entries

@@ -7,7 +7,7 @@ use mathlib.Core.Bool.{Bool, true, false, _&&_}
 use Prim.Native.Nat.{ℕ}
 use lib.Dec.{T}
 use Rattle.format.specs.Tape.{Reading, Root, conditionRoot, definitionRoot, callRoot, registryRoot, treeRoot, readLimits, read, Bytes}
-use Rattle.format.proofs.Spells.{Spells, s-condition-root, s-definition-root, s-call-root, s-registry-root, s-tree-root}
+use Rattle.format.proofs.Spells.{Spells, s-condition-root, s-definition, s-call, s-registry-root, s-tree-root}
 use Rattle.format.proofs.Builds.{Rooted, rooted-condition, rooted-definition, rooted-call, rooted-registry, rooted-tree}
 use Rattle.format.proofs.Accepted.{OnTape, accepted-on-tape}
 use Rattle.format.proofs.Encodes.{WellTexted, well-condition, well-definition, well-call, well-registry, well-tree, read-back}
@@ -41,11 +41,11 @@ lawful-condition = record { spells = s-condition-root; rooted = rooted-condition
 
 pub lawful-definition : Lawful definitionRoot
 unfolding definitionRoot
-lawful-definition = record { spells = s-definition-root; rooted = rooted-definition; texted = well-definition }
+lawful-definition = record { spells = s-definition; rooted = rooted-definition; texted = well-definition }
 
 pub lawful-call : Lawful callRoot
 unfolding callRoot
-lawful-call = record { spells = s-call-root; rooted = rooted-call; texted = well-call }
+lawful-call = record { spells = s-call; rooted = rooted-call; texted = well-call }
 
 pub lawful-registry : Lawful registryRoot
 unfolding registryRoot

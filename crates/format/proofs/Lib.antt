@@ -1,4 +1,5 @@
 pub mod All
+pub mod Tests
 pub mod Macro
 pub mod Spells
 pub mod Builds

@@ -159,10 +159,10 @@ s-term = s-pop sorted-term
 s-agg : Spells flatAgg [] (pop asAgg)
 s-agg = s-pop sorted-agg
 
-s-call : Spells flatCall [] (pop asCall)
+pub s-call : Spells flatCall [] (pop asCall)
 s-call = s-pop sorted-call
 
-s-definition : Spells flatDef [] (pop asDefinition)
+pub s-definition : Spells flatDef [] (pop asDefinition)
 s-definition = s-pop sorted-definition
 
 -- ------------------------------------------------------------------ rows
@@ -286,14 +286,14 @@ s-interval : Spells flatIntervalList [] popInterval
 unfolding popInterval
 s-interval = s-popRow s-intervals
 
-abbrev flatWithinList : WithinSpec → List Entry
+abbrev pub flatWithinList : WithinSpec → List Entry
 flatWithinList w = flatWithin w ∷ []
 
 s-within : Spells flatWithinList [] popWithin
 unfolding popWithin withinRows flatWithin
 s-within = s-popRow (s-row (s-texted 52 _ λ t. s-give _ refl) (s-mapRows WithinSpec.Concrete s-intervals (λ i. refl)))
 
-abbrev flatSlotList : BinderSlot → List Entry
+abbrev pub flatSlotList : BinderSlot → List Entry
 flatSlotList v = flatSlot v ∷ []
 
 s-slot : Spells flatSlotList [] popSlot
@@ -533,12 +533,6 @@ s-at-root {A} {f} {p} s st a h = go (subst (Spelled f (flatStack st)) h (s .run 
 
 pub s-condition-root : Spells flatCondition [] (pop asCondition)
 s-condition-root = s-pop sorted-condition
-
-pub s-call-root : Spells flatCall [] (pop asCall)
-s-call-root = s-call
-
-pub s-definition-root : Spells flatDef [] (pop asDefinition)
-s-definition-root = s-definition
 
 defs : Listing flatDef [] _∷_ length flatDefs
 unfolding flatDefs

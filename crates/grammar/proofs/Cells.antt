@@ -16,7 +16,7 @@ use Rattle.grammar.specs.Pick.{pick}
 use Rattle.grammar.specs.Waits.{wait, waits, counted}
 use Rattle.grammar.specs.Stack.{sortsIn, isEach, followsOf, cell, cellOf, Fits, waitsOf, stackOf}
 use Rattle.grammar.specs.declared.stack.Cell.{Cell}
-use Rattle.grammar.proofs.Tests.{and-left, and-right, from-true}
+use Rattle.format.proofs.Tests.{and-left, and-right, from-true}
 
 -- ------------------------------------------------------------------ cells as numbers
 

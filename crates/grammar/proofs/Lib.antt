@@ -1,4 +1,3 @@
-pub mod Tests
-pub mod Table
+mod Table
 pub mod Cells
-pub mod Words
+mod Words

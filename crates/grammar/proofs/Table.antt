@@ -1,4 +1,4 @@
--- A test that antt computes at each number of a range, and the rule that it gives there; and a table of numbers that is computed from a
+-- A test that the prover computes at each number of a range, and the rule that it gives there; and a table of numbers that is computed from a
 -- table of records.
 -- Assumes nothing.
 use mathlib.Core.Path.{_≡_, refl, subst}
@@ -10,7 +10,7 @@ use lib.ListN.{length, getD}
 use native.Mathlib.Decide.{ℕ-discrete}
 use native.Mathlib.Omega.{arith}
 use lib.Dec.{T}
-use Rattle.grammar.proofs.Tests.{and-left, and-right}
+use Rattle.format.proofs.Tests.{and-left, and-right}
 
 -- the test passes at each of the n numbers from `low` on
 abbrev pub every : (ℕ → Bool) → ℕ → ℕ → Bool

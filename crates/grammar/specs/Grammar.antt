@@ -79,8 +79,7 @@ arguments = 22
 abbrev pub parameters : ℕ
 parameters = 23
 
-abbrev pub definitions : ℕ
-definitions = 24
+-- 24 is the list of definitions, the root of a registry, which stands in no row
 
 -- the codes of a sort, from low to high
 pub record Sort : Type 0 where

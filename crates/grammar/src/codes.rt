@@ -176,6 +176,7 @@ pub fn is_each(follows: u64) -> bool
     both(32 <= follows, follows < 64)
 }
 
+// `&&` and `||` of values, as calls: what calls them goes on in one way and not in two, and so does its proof.
 pub fn both(a: bool, b: bool) -> bool
     ensures { λ r. ⌜ r ≡ (a && b) ⌝ }
 {

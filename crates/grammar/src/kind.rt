@@ -4,7 +4,7 @@ ghost use Rattle.format.specs.Limits.{isNode};
 ghost use Rattle.format.specs.Tape.{isText, textWidth};
 ghost use Rattle.grammar.specs.Kind.{kindOf};
 
-pub enum ValueKind {
+enum ValueKind {
     Text,
     Span,
     Count,
@@ -12,7 +12,7 @@ pub enum ValueKind {
 }
 
 // Document 01: "An entry with text has its length as value".
-pub fn kind_of(code: u8) -> ValueKind
+fn kind_of(code: u8) -> ValueKind
     ensures { λ r. ⌜ r ≡ kindOf code ⌝ }
 {
     match code {

@@ -17,7 +17,7 @@ pub struct Cell {
     pub calls: u64,
 }
 
-pub fn pack(c: Cell) -> u64
+fn pack(c: Cell) -> u64
     requires { ⌜ Fits c ⌝ }
     ensures { λ r. ⌜ cellOf r ≡ c ⌝ }
 {

@@ -26,7 +26,7 @@ fn find_in(s: &[u8], l: Layout, name: &[u8], places: &mut [usize]) -> Found
 }
 
 // The definition of a name. A registry has 255 definitions at the most, two numbers each.
-pub fn find(s: &[u8], l: Layout, name: &[u8]) -> Found
+fn find(s: &[u8], l: Layout, name: &[u8]) -> Found
     ensures { λ r. ⌜ r ≡ getAt (now (s .entry)) l (indexAt (now (s .entry)) l 255) (now (name .entry)) ⌝ }
 {
     let mut places = [0usize; 510];

@@ -1,7 +1,7 @@
 // Document 01's further examples: e(1, 2) gives `P{f: 2}`, charged 3; N = 1,024 is accepted, 1,025 is 3. Prints number, start, end and
 // charged for each, and for the first whether the result is the tape of `P{f: 2}` with zeros behind it.
 use libc::STDOUT_FILENO;
-use tape::node::same_text;
+use nodes::same_text;
 use tape::part::part_of;
 
 fn main() {
@@ -26,7 +26,7 @@ fn given_twice(registry: &[u8]) {
 
 fn compare<'a>(registry: &'a [u8], condition: &'a [u8]) {
     let mut result = [0u8; 12296];
-    expand(registry, condition, &mut result);
+    expand(registry, condition, &mut result, b" ");
     say_whether(&result);
 }
 
@@ -51,18 +51,17 @@ fn long(registry: &[u8], entries: u32) {
 
 fn expand_alone<'a>(registry: &'a [u8], condition: &'a [u8]) {
     let mut result = [0u8; 12296];
-    expand(registry, condition, &mut result);
-    io::write_all(STDOUT_FILENO, b"\n");
+    expand(registry, condition, &mut result, b"\n");
 }
 
-fn expand<'a>(registry: &'a [u8], condition: &'a [u8], result: &mut [u8]) {
+fn expand<'a>(registry: &'a [u8], condition: &'a [u8], result: &mut [u8], behind: &[u8]) {
     let mut work = [0u8; 65536];
     let mut message = [0u8; 2048];
     let answer = expansion::expand(registry, condition, 100, result, &mut work, &mut message);
     print(answer.number, b" ");
     print(answer.span.start, b" ");
     print(answer.span.end, b" ");
-    print(answer.charged, b" ");
+    print(answer.charged, behind);
 }
 
 fn print(n: u32, behind: &[u8]) {

@@ -1,4 +1,3 @@
 -- What the contracts of the crate cite.
 pub mod Write
-pub mod Names
 pub mod Reason

@@ -1,11 +1,8 @@
 -- What a refusal says: document 01's number and message for each reason.
 -- Assumes nothing.
 use Prim.Native.Nat.{ℕ, _%_, _^_}
-use mathlib.Core.List.{List, [], _∷_}
-use lib.ListN.{getD}
+use mathlib.Core.List.{List, []}
 use Rattle.format.specs.Entry.{Text}
-use Rattle.format.specs.Ast.{TimeUnit, WithinSpec, BinderSlot, BinderType, Sigil, CmpOp, Condition, Term, Call, CallArgs, NamedArgs}
-use Rattle.definition.specs.Text.{utf8}
 use Rattle.definition.specs.Outcome.{spanStart}
 use Rattle.definition.specs.Messages.{
   reservedName,
@@ -20,8 +17,6 @@ use Rattle.definition.specs.Messages.{
   conditionAsValue,
   argumentCount,
   budgetExceeded,
-  sigilKind,
-  sigilMark,
   strayCondition,
   strayWithin,
   straySlot,
@@ -35,10 +30,10 @@ use Rattle.definition.specs.Messages.{
   notAnIdentifier,
   notAPredicate,
 }
-use Rattle.tape.specs.Node.{nameAt, spanOf}
+use Rattle.nodes.specs.Node.{nameAt, spanOf}
 use Rattle.tape.specs.declared.layout.Layout.{Layout}
-use Rattle.tape.specs.declared.node.Sigil.{Sigil as TapeSigil}
-use Rattle.tape.specs.declared.node.Sigil.the-variants.{Param, Binder}
+use Rattle.pieces.specs.Names.{namesAt}
+use Rattle.place_words.specs.Words.{sigilOf, ofCode}
 use Rattle.messages.specs.declared.Reason.{Reason}
 use Rattle.messages.specs.declared.Reason.the-variants.{
   Silent,
@@ -68,7 +63,6 @@ use Rattle.messages.specs.declared.Reason.the-variants.{
   NotAPredicate,
 }
 use Rattle.messages.specs.declared.Refused.{Refused}
-use Rattle.messages.specs.Names.{namesAt}
 
 abbrev pub refusedAt : ℕ → Reason → Refused
 refusedAt span reason = record { span = spanOf span; reason = reason }
@@ -99,35 +93,6 @@ numberOf (NotAnInterval m n) = 44
 numberOf (NotATerm m n) = 45
 numberOf (NotAnIdentifier m n) = 46
 numberOf (NotAPredicate k) = 47
-
-abbrev pub sigilOf : TapeSigil → Sigil
-sigilOf Param = Sigil.Param
-sigilOf Binder = Sigil.Binder
-
--- a stray sigil with its name, and where it stands
-unfoldable pub strayPieces : Sigil → Text → Text → List Text
-strayPieces g name place = utf8 "stray " ∷ sigilKind g ∷ utf8 " reference `" ∷ sigilMark g ∷ name ∷ place ∷ []
-
--- Some condition of each code, for the words that the message has for all of them: `byCode` has them in the codes' order from 1 on.
-abbrev pub anyTp : Condition
-anyTp = Condition.Tp 0 (BinderSlot.Name [])
-
-abbrev pub anyRefine : Condition
-anyRefine = Condition.Refine 0 0 anyTp NamedArgs.noFields
-
-abbrev pub anyWithin : WithinSpec
-anyWithin = WithinSpec.ParamRef []
-
-abbrev pub byCode : List Condition
-byCode =
-    anyRefine ∷ Condition.And 0 anyTp anyTp ∷ Condition.Or 0 anyTp anyTp ∷ Condition.Not 0 anyTp
-    ∷ Condition.Formerly 0 anyWithin anyTp ∷ Condition.Previous 0 anyWithin anyTp ∷ Condition.Since 0 anyTp anyWithin anyTp
-    ∷ Condition.Predicate 0 0 [] [] [] NamedArgs.noFields ∷ Condition.Comparison 0 CmpOp.Eq Term.Wildcard Term.Wildcard
-    ∷ Condition.Exists 0 (record { slot = BinderSlot.Name []; ty = BinderType.Timepoint }) anyTp ∷ anyTp
-    ∷ Condition.ConditionCall 0 (Call.MacroCall 0 [] CallArgs.noArgs) ∷ Condition.SigilRef 0 Sigil.Param [] ∷ []
-
-unfoldable pub ofCode : ℕ → Condition
-ofCode code = getD byCode code anyRefine
 
 -- Names of the definition's tape s, laid out as d, and of the call's tape t, laid out as c. The counts of an accepted tape are
 -- far below 2 ^ 32.

@@ -1,47 +1,40 @@
 // The messages of document 01's refusals, written from the refusal and the tapes that spell its names.
-use crate::body::duplicate_definition;
-use crate::body::macro_in_macro;
-use crate::body::plain_identifier;
-use crate::body::reserved_name;
-use crate::body::undeclared_parameter;
-use crate::call::argument_count;
-use crate::call::budget_exceeded;
-use crate::call::cedar_in_condition;
-use crate::call::cedar_in_value;
-use crate::call::condition_as_value;
-use crate::call::unknown_macro;
-use crate::call::value_as_condition;
-use crate::parameter::binder_as_condition;
-use crate::parameter::not_a_condition;
-use crate::parameter::not_a_predicate;
-use crate::parameter::not_a_term;
-use crate::parameter::not_an_identifier;
-use crate::parameter::not_an_interval;
-use crate::parameter::unbound_parameter;
-use crate::stray::stray_condition;
-use crate::stray::stray_field;
-use crate::stray::stray_operand;
-use crate::stray::stray_slot;
-use crate::stray::stray_within;
 use buffer::zero_from;
+use call_words::body::duplicate_definition;
+use call_words::body::macro_in_macro;
+use call_words::body::plain_identifier;
+use call_words::body::reserved_name;
+use call_words::body::undeclared_parameter;
+use call_words::call::argument_count;
+use call_words::call::budget_exceeded;
+use call_words::call::cedar_in_condition;
+use call_words::call::cedar_in_value;
+use call_words::call::condition_as_value;
+use call_words::call::unknown_macro;
+use call_words::call::value_as_condition;
+use nodes::Name;
+use nodes::Sigil;
+use nodes::Span;
+use nodes::span_of;
+use place_words::parameter::binder_as_condition;
+use place_words::parameter::not_a_condition;
+use place_words::parameter::not_a_predicate;
+use place_words::parameter::not_a_term;
+use place_words::parameter::not_an_identifier;
+use place_words::parameter::not_an_interval;
+use place_words::parameter::unbound_parameter;
+use place_words::stray::stray_condition;
+use place_words::stray::stray_field;
+use place_words::stray::stray_operand;
+use place_words::stray::stray_slot;
+use place_words::stray::stray_within;
 use tape::layout::Layout;
 use tape::layout::Place;
-use tape::node::Name;
-use tape::node::Sigil;
-use tape::node::Span;
-use tape::node::span_of;
 ghost use mathlib.Core.Path.{_≡_};
 ghost use lib.ListN.{length};
 ghost use Rattle.buffer.specs.Buffer.{messageIn, Written};
 ghost use Rattle.messages.specs.Reason.{numberOf, refusedAt, messageOf};
 ghost use Rattle.messages.specs.Write.{filled};
-
-mod body;
-mod call;
-pub mod names;
-mod parameter;
-mod pieces;
-mod stray;
 
 // Why an input is refused. A name is one of the definition's tape (a registry's too), or of the call's (a condition's too).
 pub enum Reason {
@@ -71,7 +64,7 @@ pub enum Reason {
     StraySlot(Sigil, Name),
     StrayField(Sigil, Name),
     StrayOperand(Sigil, Name),
-    // 41 to 46: the macro's name, and the parameter's
+    // 41 to 46: the macro's name and the parameter's; 43: the binder's alone
     Unbound(Name, Name),
     NotACondition(Name, Name),
     BinderAsCondition(Name),

@@ -1,7 +1,7 @@
 -- The answer on a registry's tape: what the names of its definitions are judged as.
 -- Assumes nothing.
 use Prim.Native.Nat.{ℕ, _≤_}
-use mathlib.Core.Path.{_≡_, sym, _∙_}
+use mathlib.Core.Path.{_≡_}
 use mathlib.Core.List.{List}
 use Rattle.format.specs.Tape.{registryRoot, Bytes}
 use Rattle.definition.specs.Registry.{build}

@@ -1,7 +1,7 @@
 -- Over the places where a registry's definitions stand, the names are judged as `Registry::build` judges the definitions.
 -- Assumes nothing.
 use Prim.Native.Nat.{ℕ}
-use mathlib.Core.Path.{_≡_, refl, sym, ap, subst, _∙_}
+use mathlib.Core.Path.{_≡_, refl, sym, ap, _∙_}
 use mathlib.Core.List.{List, [], _∷_, _++_}
 use mathlib.Core.Bool.{Bool, true, false, _&&_, false≢true}
 use mathlib.Core.Option.{Option, none, some}
@@ -11,27 +11,25 @@ use lib.ListN.{length}
 use borrow.Author.Tests.{eqb-true}
 use Rattle.format.specs.Entry.{Text}
 use Rattle.format.specs.Ast.{MacroDef}
-use Rattle.format.specs.Flat.{flatDef}
 use Rattle.definition.specs.Text.{eqText}
-use Rattle.definition.specs.Outcome.{refusal, spanStart}
+use Rattle.definition.specs.Outcome.{refusal}
 use Rattle.definition.specs.Check as definition
 use Rattle.definition.specs.Check.{_andThen_, contains}
-use Rattle.definition.specs.Messages.{reservedName, duplicateDefinition}
+use Rattle.definition.specs.Messages.{reservedName}
 use Rattle.definition.specs.Registry.{reservedNames, get, checkReserved, checkDuplicate, buildFrom, build}
 use Rattle.tape.specs.Pick.{pick}
-use Rattle.tape.specs.Node.{nameAt}
+use Rattle.nodes.specs.Node.{nameAt}
 use Rattle.tape.specs.declared.layout.Layout.{Layout}
 use Rattle.tape.specs.declared.layout.Place.{Place}
-use Rattle.tape.specs.declared.node.Heading.{Heading}
-use Rattle.tape.proofs.Located.{Inside}
-use Rattle.tape.proofs.Placed.{parts-def}
+use Rattle.nodes.specs.declared.Heading.{Heading}
+use Rattle.nodes.proofs.Placed.{parts-def}
 use Rattle.messages.specs.Reason.{refusedAt, messageOf}
 use Rattle.messages.specs.declared.Reason.the-variants.{Reserved}
-use Rattle.messages.proofs.Order.{eq-refl}
+use Rattle.pieces.proofs.Order.{eq-refl}
 use Rattle.answer.specs.Told.{Judges}
 use Rattle.answer.specs.declared.Verdict.{Verdict}
-use Rattle.answer.specs.declared.Verdict.the-variants.{Passes, Refused}
-use Rattle.registry.specs.Places.{getAt, duplicateOf, thenTake, checkAt, buildFromAt, buildAt}
+use Rattle.answer.specs.declared.Verdict.the-variants.{Refused}
+use Rattle.registry.specs.Places.{duplicateOf, thenTake, checkAt, buildFromAt, buildAt}
 use Rattle.registry.specs.declared.Found.{Found}
 use Rattle.registry.proofs.Standing.{Indexed, indexed-nil, indexed-cons, indexed-snoc, Finds, finds-nothing, finds, get-finds}
 

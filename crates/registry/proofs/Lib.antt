@@ -1,6 +1,6 @@
 -- The laws that several proofs of the crate cite.
-pub mod Tables
-pub mod Steps
+mod Tables
+mod Steps
 pub mod Standing
 pub mod Judging
-pub mod Answers
+mod Answers

@@ -13,13 +13,13 @@ use Rattle.format.specs.Flat.{flatParams, flatBody, flatDef, flatDefs, flatRegi
 use Rattle.definition.specs.Text.{eqText}
 use Rattle.definition.specs.Registry.{get}
 use Rattle.tape.specs.Pick.{pick}
-use Rattle.tape.specs.Node.{onPlace, nameAt}
+use Rattle.nodes.specs.Node.{onPlace, nameAt}
 use Rattle.tape.specs.Scan.{skipAt}
 use Rattle.tape.specs.declared.layout.Layout.{Layout}
 use Rattle.tape.specs.declared.layout.Place.{Place}
-use Rattle.tape.specs.declared.node.Heading.{Heading}
+use Rattle.nodes.specs.declared.Heading.{Heading}
 use Rattle.tape.proofs.Located.{past, Inside, inside-skip}
-use Rattle.tape.proofs.Placed.{parts-def, parts-defs, parts-registry}
+use Rattle.nodes.proofs.Placed.{parts-def, parts-defs, parts-registry}
 use Rattle.tape.proofs.Runs.{place}
 use Rattle.tape.proofs.Trees.{passes-definition}
 use Rattle.registry.specs.Places.{defsAt, indexAt, getAt}

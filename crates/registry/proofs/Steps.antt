@@ -13,17 +13,17 @@ use Rattle.format.specs.Entry.{Text}
 use Rattle.definition.specs.Text.{eqText}
 use Rattle.definition.specs.Check.{contains}
 use Rattle.definition.specs.Registry.{reservedNames}
-use Rattle.tape.specs.Node.{onPlace, expectAt, headingAt, nameAt}
+use Rattle.nodes.specs.Node.{onPlace, expectAt, headingAt, nameAt}
 use Rattle.tape.specs.Scan.{skipAt}
 use Rattle.tape.specs.declared.layout.Layout.{Layout}
 use Rattle.tape.specs.declared.layout.Place.{Place}
-use Rattle.tape.specs.declared.node.Refusal.{Refusal}
-use Rattle.tape.specs.declared.node.ValueRead.{ValueRead}
-use Rattle.tape.specs.declared.node.ValueRead.the-variants as vr
-use Rattle.tape.specs.declared.node.ValueRead.the-variants.{Value}
-use Rattle.tape.specs.declared.node.Heading.{Heading}
-use Rattle.tape.specs.declared.node.HeadingRead.{HeadingRead}
-use Rattle.tape.specs.declared.node.HeadingRead.the-variants as hr
+use Rattle.nodes.specs.declared.Refusal.{Refusal}
+use Rattle.nodes.specs.declared.ValueRead.{ValueRead}
+use Rattle.nodes.specs.declared.ValueRead.the-variants as vr
+use Rattle.nodes.specs.declared.ValueRead.the-variants.{Value}
+use Rattle.nodes.specs.declared.Heading.{Heading}
+use Rattle.nodes.specs.declared.HeadingRead.{HeadingRead}
+use Rattle.nodes.specs.declared.HeadingRead.the-variants as hr
 use Rattle.tape.specs.declared.scan.Skipped.{Skipped}
 use Rattle.tape.specs.declared.scan.Skipped.the-variants.{At, Nowhere}
 use Rattle.messages.specs.Reason.{refusedAt}

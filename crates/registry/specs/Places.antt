@@ -9,13 +9,11 @@ use Rattle.definition.specs.Text.{eqText}
 use Rattle.definition.specs.Check.{contains}
 use Rattle.definition.specs.Registry.{reservedNames}
 use Rattle.tape.specs.Pick.{pick}
-use Rattle.tape.specs.Node.{onValue, onPlace, expectAt, headingAt, nameAt}
+use Rattle.nodes.specs.Node.{onValue, onPlace, onHeading, expectAt, headingAt, nameAt}
 use Rattle.tape.specs.Scan.{skipAt}
 use Rattle.tape.specs.declared.layout.Layout.{Layout}
 use Rattle.tape.specs.declared.layout.Place.{Place}
-use Rattle.tape.specs.declared.node.Heading.{Heading}
-use Rattle.tape.specs.declared.node.HeadingRead.{HeadingRead}
-use Rattle.tape.specs.declared.node.HeadingRead.the-variants as hr
+use Rattle.nodes.specs.declared.Heading.{Heading}
 use Rattle.messages.specs.Reason.{refusedAt}
 use Rattle.messages.specs.declared.Reason.the-variants.{Silent, Reserved, Duplicate}
 use Rattle.answer.specs.declared.Verdict.{Verdict}
@@ -33,11 +31,6 @@ firstPlace table = record { at = getD table 0 0; text = getD table 1 0 }
 unfoldable pub placesIn : List ℕ → ℕ → List Place
 placesIn table zero = []
 placesIn table (suc n) = pick (leb 2 (length table)) (firstPlace table ∷ placesIn (drop 2 table) n) []
-
--- a heading that was read, or else `none`
-abbrev pub onHeading : {A : Type 0} → A → (Heading → Place → A) → HeadingRead → A
-onHeading none f (hr.Node h next) = f h next
-onHeading none f (hr.Refused r) = none
 
 -- the span is the later definition's, and the message has the start of the earlier one
 abbrev pub duplicateOf : Heading → Found → Verdict

@@ -6,17 +6,17 @@ use answer::bare;
 use answer::conclude;
 use messages::Reason;
 use messages::refuse;
+use nodes::Heading;
+use nodes::HeadingRead;
+use nodes::ValueRead;
+use nodes::expect;
+use nodes::name_at;
+use nodes::read_heading;
+use nodes::same_text;
 use tape::accept::accept;
 use tape::header::Opened;
 use tape::layout::Layout;
 use tape::layout::Place;
-use tape::node::Heading;
-use tape::node::HeadingRead;
-use tape::node::ValueRead;
-use tape::node::expect;
-use tape::node::name_at;
-use tape::node::read_heading;
-use tape::node::same_text;
 use tape::scan::Skipped;
 use tape::scan::skip;
 ghost use mathlib.Core.Path.{_≡_};
@@ -86,28 +86,6 @@ pub fn index(s: &[u8], l: Layout, places: &mut [usize]) -> usize
         return 0;
     };
     index_from(s, l, first, count, places)
-}
-
-// `Registry::get`: the first definition of a name among the first `count`.
-pub fn get(s: &[u8], l: Layout, places: &[usize], count: usize, name: &[u8]) -> Found
-    ensures { λ r. ⌜ r ≡ getAt (now (s .entry)) l (placesIn (now (places .entry)) count) (now (name .entry)) ⌝ }
-{
-    let mut rest = places;
-    let mut left = count;
-    while 0 < left {
-        if rest.len() < 2 {
-            return Found::Nothing;
-        }
-        let HeadingRead::Node(h, params) = read_heading(s, l, first_place(rest), 60) else {
-            return Found::Nothing;
-        };
-        if same_text(name_at(s, l, h.name), name) {
-            return Found::Definition(h, params);
-        }
-        rest = &rest[2..];
-        left = left - 1;
-    }
-    Found::Nothing
 }
 
 // Whether a name is one of four.
@@ -210,4 +188,26 @@ pub fn build(registry: &[u8], message: &mut [u8]) -> Answer
         Opened::Refused(n) => bare(n, 0, message),
         Opened::Tape(l) => conclude(registry, l, check_registry(registry, l), message),
     }
+}
+
+// `Registry::get`: the first definition of a name among the first `count`.
+pub fn get(s: &[u8], l: Layout, places: &[usize], count: usize, name: &[u8]) -> Found
+    ensures { λ r. ⌜ r ≡ getAt (now (s .entry)) l (placesIn (now (places .entry)) count) (now (name .entry)) ⌝ }
+{
+    let mut rest = places;
+    let mut left = count;
+    while 0 < left {
+        if rest.len() < 2 {
+            return Found::Nothing;
+        }
+        let HeadingRead::Node(h, params) = read_heading(s, l, first_place(rest), 60) else {
+            return Found::Nothing;
+        };
+        if same_text(name_at(s, l, h.name), name) {
+            return Found::Definition(h, params);
+        }
+        rest = &rest[2..];
+        left = left - 1;
+    }
+    Found::Nothing
 }

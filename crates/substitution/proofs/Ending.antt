@@ -19,16 +19,16 @@ use Rattle.tape.specs.declared.header.Opened.{Opened}
 use Rattle.tape.specs.declared.header.Opened.the-variants as opened
 use Rattle.tape.specs.declared.layout.Layout.{Layout}
 use Rattle.tape.proofs.Acceptance.{RootOf, Answers, answers-2, answers-3, answers-tape, answers}
-use Rattle.tape.proofs.Tests.{and-left, and-right, from-true}
-use Rattle.area.specs.Area.{paper, finishedIn}
+use Rattle.format.proofs.Tests.{and-left, and-right, from-true}
+use Rattle.area.specs.Area.{areaIn, finishedIn}
 use Rattle.area.proofs.Tape.{finish-fits}
 use Rattle.messages.specs.declared.Refused.{Refused}
 use Rattle.answer.specs.Told.{told, answered, Refuses}
 use Rattle.answer.specs.declared.Answer as code
 use Rattle.substitution.specs.Ends.{buffers, treeEnd, Comes, messageIn, Concludes}
-use Rattle.substitution.specs.declared.maps.State.{State}
-use Rattle.substitution.specs.declared.maps.Walk.{Walk}
-use Rattle.substitution.specs.declared.maps.Walk.the-variants as walk
+use Rattle.arguments.specs.declared.maps.State.{State}
+use Rattle.arguments.specs.declared.maps.Walk.{Walk}
+use Rattle.arguments.specs.declared.maps.Walk.the-variants as walk
 
 -- ------------------------------------------------------------------ what is told
 
@@ -62,7 +62,7 @@ module _ {r : code.Answer} {result work message : List ℕ} (n l m : ℕ) (q : w
 
 module _ (s : List ℕ) (d : Layout) (t : List ℕ) (c : Layout) (bytes : List ℕ) {r : code.Answer} {result work message : List ℕ}
     (l m : ℕ) (q : work ≡ padded l []) {w : Walk} where
-  pub concludes-going : (before : List ℕ) {st : State} → w ≡ walk.Going st → result ≡ finishedIn (paper (st .out) bytes) before
+  pub concludes-going : (before : List ℕ) {st : State} → w ≡ walk.Going st → result ≡ finishedIn (areaIn (st .out) bytes) before
       → told r [] [] message ≡ answered m (Outcome.refused (refusal 0 0 []) (st .charged))
       → Concludes s d t c w bytes (buffers (length before) l m) (told r result work message)
   unfolding Comes

@@ -15,9 +15,9 @@ use Rattle.tape.specs.declared.header.Opened.the-variants as opened
 use Rattle.tape.specs.declared.layout.Layout.{Layout}
 use Rattle.tape.proofs.Roots.{definition-root, call-root, accepted-root}
 use Rattle.substitution.specs.Ends.{buffers, treeEnd, Concludes}
-use Rattle.substitution.specs.Front.{tapesIn}
-use Rattle.substitution.specs.Output.{world}
-use Rattle.substitution.specs.declared.maps.Walk.{Walk}
+use Rattle.front.specs.Front.{tapesIn}
+use Rattle.arguments.specs.Output.{progress}
+use Rattle.arguments.specs.declared.maps.Walk.{Walk}
 use Rattle.substitution.proofs.Ending.{long-enough, ends-second, ends-walked}
 use Rattle.substitution.proofs.TreesAccepted.{substitution-comes}
 
@@ -32,7 +32,7 @@ module _ (r l m limit : ℕ) (definition input : List ℕ) {a : Answer} (long : 
 
   -- the walk leaves the work buffer as long as it was
   pub substituted : {c : Layout} {w : Walk} (work bytes : List ℕ) → limit < 2 ^ 32 → Bytes input → l ≡ length work → length bytes ≡ length work
-      → acceptOf input 11 ≡ opened.Tape c → world w bytes ≡ tapesIn definition d input c limit work
+      → acceptOf input 11 ≡ opened.Tape c → progress w bytes ≡ tapesIn definition d input c limit work
       → Concludes definition d input c w bytes (buffers r (length bytes) m) a → a ≡ substituteAnswer (buffers r l m) limit definition input
   unfolding substituteAnswer substituteTapes
   substituted {c} {w} work bytes small q room kept h walked k =

@@ -5,19 +5,17 @@ use native.Mathlib.Omega.{arith}
 use mathlib.Core.Path.{_≡_, refl}
 use mathlib.Core.Logic.{_≢_, _⊎_, inl, inr}
 use mathlib.Core.List.{List, []}
-use mathlib.Core.Bool.{Bool, true, false}
+use mathlib.Core.Bool.{true}
 use lib.ListN.{length}
-use borrow.Author.Tests.{not-false}
 use Rattle.format.specs.Ast.{Condition, Term, Call, Tree, MacroBody, MacroDef}
 use Rattle.format.specs.Flat.{lengthArgs, flatCondition, flatTerm, flatTree, flatCall, flatDef}
-use Rattle.format.specs.Limits.{isNode, isCall, deepTree, fitsAll, tooLargeTree}
+use Rattle.format.specs.Limits.{tooLargeTree}
 use Rattle.format.specs.Tape.{definitionRoot, callRoot}
-use Rattle.definition.specs.Outcome.{Outcome, pure, proceed, openOutcome}
+use Rattle.definition.specs.Outcome.{Outcome, openOutcome}
 use Rattle.definition.specs.Substitute.{
   mapsOf,
   chargeBody,
   checkArity,
-  checkLimits,
   substTemporalCondition,
   substTemporalTerm,
   substituteTemporalCondition,
@@ -29,27 +27,15 @@ use Rattle.tape.specs.declared.layout.Layout.{Layout}
 use Rattle.tape.specs.declared.layout.Place.{Place}
 use Rattle.tape.proofs.Located.{Inside, accepted-inside}
 use Rattle.tape.proofs.Roots.{Accepted, call-root, definition-root, few-params, small-nesting}
-use Rattle.tape.proofs.Tests.{and-left, is-true, from-true}
-use Rattle.area.specs.Area.{Paper, fitsArea}
-use Rattle.substitution.specs.Output.{World}
-use Rattle.substitution.specs.Parameters.{Tapes}
+use Rattle.area.specs.Area.{Area, fitsArea}
+use Rattle.arguments.specs.Output.{Progress}
+use Rattle.parameters.specs.Parameters.{Tapes}
 use Rattle.substitution.specs.Ends.{Comes}
-use Rattle.substitution.specs.Front.{origin, tapesIn}
-use Rattle.substitution.proofs.TreesGives.{Gives, gives, refuses, AllDone, all-bind, all-map, all-of}
-use Rattle.substitution.proofs.TreesFront.{tapes-cedar, cedar-says, tapes-gives}
+use Rattle.front.specs.Front.{origin, tapesIn}
+use Rattle.parameters.proofs.TreesGives.{Gives, gives, refuses, AllDone, all-bind, all-map, all-of}
+use Rattle.front.proofs.TreesFront.{small-fits, limited, tapes-cedar, cedar-says, tapes-gives}
 
 -- ------------------------------------------------------------------ a result fits
-
-pub small-fits : (t : Tree) → tooLargeTree t ≡ false → fitsArea (flatTree t) ≡ true
-unfolding tooLargeTree fitsAll
-small-fits t e = is-true (and-left (fitsArea (flatTree t)) _
-    (from-true (not-false (fitsAll (flatTree t) (deepTree isNode t) (deepTree isCall t)) e)))
-
-pub limited : {A : Type 0} (Q : A → Type 0) (large : Bool) (span k : ℕ) (a : A) → (large ≡ false → Q a)
-    → AllDone Q (proceed (checkLimits large span k) (λ u. pure a))
-unfolding checkLimits openOutcome AllDone
-limited Q true span k a h = tt
-limited Q false span k a h = h refl
 
 module _ (limit : ℕ) (dm : MacroDef) where
   abbrev Fits : Tree → Type 0
@@ -85,7 +71,7 @@ is-cedar (MacroBody.TemporalValue t) = inr λ e. let z : _≡_ {A = ℕ} 0 1 = c
 pub substitution-comes : (limit : ℕ) {def call : List ℕ} {l c : Layout} (dm : MacroDef) (cl : Call) → Accepted definitionRoot def l dm
     → Accepted callRoot call c cl
     → (bytes : List ℕ) → 12288 ≤ length bytes
-    → let X : World = tapesIn def l call c limit bytes in Comes def l call c (X .walk) (X .bytes) (substitute limit dm cl)
+    → let X : Progress = tapesIn def l call c limit bytes in Comes def l call c (X .walk) (X .bytes) (substitute limit dm cl)
 unfolding definitionRoot callRoot substitute substituteBody Comes openOutcome
 substitution-comes limit {def} {call} {l} {c} dm (Call.MacroCall span name args) h g bytes room = by-kind (is-cedar (dm .body))
   where
@@ -95,7 +81,7 @@ substitution-comes limit {def} {call} {l} {c} dm (Call.MacroCall span name args)
     i : Inside call c origin (flatCall (Call.MacroCall span name args))
     i = accepted-inside call-root g
 
-    go : {T : Tapes} {P : Paper} {X : World} {end : Place} (o : Outcome Tree) → substitute limit dm (Call.MacroCall span name args) ≡ o
+    go : {T : Tapes} {P : Area} {X : Progress} {end : Place} (o : Outcome Tree) → substitute limit dm (Call.MacroCall span name args) ≡ o
         → Gives T flatTree P [] X end o → Comes (T .definition) (T .maps .definition) call c (X .walk) (X .bytes) o
     go o e (gives Q x w v) = rw x (refl, w .out, all-of (Fits limit dm) (body-fits limit dm (dm .body) (Call.MacroCall span name args)) e)
     go o e (refuses after x tells v) = rw x (refl, tells call c)

@@ -11,10 +11,10 @@ use Rattle.format.specs.Flat.{flatTree}
 use Rattle.definition.specs.Outcome.{Outcome}
 use Rattle.definition.specs.Answers.{Answer, Buffers, answer}
 use Rattle.tape.specs.declared.layout.Layout.{Layout}
-use Rattle.area.specs.Area.{paper, fitsArea, OutIs}
+use Rattle.area.specs.Area.{areaIn, fitsArea, OutIs}
 use Rattle.answer.specs.Told.{Says}
-use Rattle.substitution.specs.declared.maps.Walk.{Walk}
-use Rattle.substitution.specs.declared.maps.Walk.the-variants as walk
+use Rattle.arguments.specs.declared.maps.Walk.{Walk}
+use Rattle.arguments.specs.declared.maps.Walk.the-variants as walk
 
 abbrev pub buffers : ℕ → ℕ → ℕ → Buffers
 buffers result work message = record { resultLength = result; workLength = work; messageLength = message }
@@ -27,7 +27,7 @@ treeEnd b o = answer (λ (t : Tree). encode (flatTree t)) b o
 -- area of a slice, is the tree, which is within the largest figures of an area; or its refusal is the outcome's.
 unfoldable pub Comes : List ℕ → Layout → List ℕ → Layout → Walk → List ℕ → Outcome Tree → Type 0
 Comes s d t c (walk.Going st) bytes (Outcome.done tree charged) =
-    (st .charged ≡ charged) × OutIs (paper (st .out) bytes) (flatTree tree) × (fitsArea (flatTree tree) ≡ true)
+    (st .charged ≡ charged) × OutIs (areaIn (st .out) bytes) (flatTree tree) × (fitsArea (flatTree tree) ≡ true)
 Comes s d t c (walk.Going st) bytes (Outcome.refused r charged) = ⊥
 Comes s d t c (walk.Refused f k) bytes (Outcome.done tree charged) = ⊥
 Comes s d t c (walk.Refused f k) bytes (Outcome.refused r charged) = (k ≡ charged) × Says s d t c f r

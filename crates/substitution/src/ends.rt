@@ -1,9 +1,9 @@
 // How an operation with three buffers ends: the result and zeros behind it, or zeros and a message. Expansion ends so too.
-use crate::maps::Walk;
 use answer::Answer;
 use answer::bare;
 use answer::refuse;
 use area::finish;
+use arguments::maps::Walk;
 use buffer::zero;
 use tape::layout::Layout;
 ghost use mathlib.Core.Path.{_≡_};

@@ -2,8 +2,8 @@
 use crate::ends::conclude;
 use crate::ends::long_buffers;
 use crate::ends::refuse_bare;
-use crate::front::substitute_tapes;
 use answer::Answer;
+use front::substitute_tapes;
 use tape::accept::accept;
 use tape::header::Opened;
 ghost use mathlib.Core.Path.{_≡_};
@@ -13,12 +13,6 @@ ghost use Rattle.definition.specs.Answers.{substituteAnswer};
 ghost use Rattle.substitution.specs.Ends.{buffers};
 
 pub mod ends;
-pub mod front;
-pub mod maps;
-pub mod places;
-pub mod refine;
-pub mod run;
-pub mod walk;
 
 // The operation: the answer and every byte of the three buffers are what the definition says, for every input and every buffer.
 pub fn substitute<'a>(

@@ -18,7 +18,7 @@ use Rattle.format.specs.Tape.{Reading, split, printable, readText, readSections
 use Rattle.format.proofs.Builds.{Rooted}
 use Rattle.format.proofs.Encodes.{WellTexted}
 use Rattle.format.proofs.Spells.{Spells, s-at-root, build-spells}
-use Rattle.tape.specs.Accept.{judged, acceptIn, afterOpen, acceptOf, answered}
+use Rattle.tape.specs.Accept.{judged, acceptIn, afterOpen, acceptOf}
 use Rattle.tape.specs.Header.{entriesOf, sizeOf}
 use Rattle.tape.specs.Layouts.{tapeLayout, entriesAt}
 use Rattle.tape.specs.Pick.{pick}
@@ -33,7 +33,7 @@ use Rattle.tape.specs.declared.scan.Scanned.the-variants.{Ends, Malforme
 use Rattle.tape.proofs.Holding.{starting}
 use Rattle.tape.proofs.Passing.{Passes, Keeps, reported}
 use Rattle.tape.proofs.Places.{widthsOf, widths-texted, entries-texted, split-entries, eq→eqb}
-use Rattle.tape.proofs.Tests.{and-left, and-right, and-both, is-true, from-true, same-test}
+use Rattle.format.proofs.Tests.{and-left, and-right, and-both, is-true, from-true, same-test}
 use Rattle.tape.proofs.Turns.{length-entries}
 use Rattle.tape.proofs.Typed.{Typed, flatAt, found, ends-text}
 
@@ -322,11 +322,3 @@ module _ {A : Type 0} {root : Root A} {sort : ℕ} (r : RootOf root sort) where
           (readTree root (elim b [ true ↦ readSizes n t (drop 8 s) | false ↦ Reading.malformed ]))
       long false h = answers-2
       long true h = fits (h tt) (fitsSizes n t) (λ u. u)
-
-  pub accept-root : (s : List ℕ) → acceptOf s sort ≡ answered root (read root s)
-  accept-root s = go (answers s)
-    where
-      go : {x : Opened} {y : Reading A} → Answers root s x y → x ≡ answered root y
-      go answers-2 = refl
-      go answers-3 = refl
-      go (answers-tape h e) = ap Tape e

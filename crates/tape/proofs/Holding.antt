@@ -10,7 +10,7 @@ use Rattle.tape.specs.Scan.{starts}
 use Rattle.tape.specs.Turn.{Starts}
 use Rattle.tape.specs.declared.layout.Place.{Place}
 use Rattle.tape.specs.declared.layout.Layout.{Layout}
-use Rattle.tape.proofs.Tests.{and-left, and-right, and-both}
+use Rattle.format.proofs.Tests.{and-left, and-right, and-both}
 
 module _ (s : List ℕ) (l : Layout) where
   pub held : T (holds s l) → Held s l

@@ -1,15 +1,11 @@
-pub mod Items
-pub mod Rows
 pub mod Located
-pub mod Placed
-pub mod Tests
-pub mod Holding
-pub mod Parts
-pub mod Turns
+mod Holding
+mod Parts
+mod Turns
 pub mod Passing
 pub mod Trees
-pub mod Typed
-pub mod Places
+mod Typed
+mod Places
 pub mod Acceptance
 pub mod Runs
 pub mod Roots

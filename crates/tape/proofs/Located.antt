@@ -1,4 +1,4 @@
--- Entries at a place of a tape or of a work area: what is read there, and where the entries behind them stand.
+-- Entries at a place of a tape or of a work area, and where the entries behind them stand.
 -- Assumes nothing.
 use Prim.Native.Nat.{ℕ, _+_, _*_, _<_}
 use native.Mathlib.Omega.{arith}
@@ -7,28 +7,22 @@ use mathlib.Core.List.{List, [], _∷_, _++_}
 use mathlib.Core.Bool.{Bool}
 use lib.ListN.{length, take, drop, length-append}
 use lib.Seq.{slice, drop-at, take-add, length-take-le}
-use borrow.Author.Tests.{lt-ltb, le-leb, eq-eqb}
 use Rattle.definition.specs.Size.{size}
-use Rattle.format.specs.Entry.{Text, Entry, codesOf, valuesOf, textOf}
+use Rattle.format.specs.Entry.{Entry, codesOf, valuesOf, textOf}
 use Rattle.format.specs.Stands.{part, Spells}
-use Rattle.format.specs.Tape.{isText, textWidth, Root}
+use Rattle.format.specs.Tape.{Root}
 use Rattle.format.proofs.Accepted.{length-codes}
-use Rattle.format.proofs.All.{all-left, all-right, all-head}
+use Rattle.format.proofs.All.{all-left, all-right}
 use Rattle.format.proofs.Encodes.{WellTexted, length-values}
-use Rattle.format.proofs.Stands.{stands-code, stands-value, stands-text}
-use Rattle.tape.specs.Layouts.{sizeBetween}
-use Rattle.tape.specs.Node.{hasEntry, hasText, onward, named, entryAt, expectAt, nameAt}
+use Rattle.tape.specs.Layouts.{onward, sizeBetween}
 use Rattle.tape.specs.Scan.{skipAt}
 use Rattle.tape.specs.declared.layout.Layout.{Layout}
 use Rattle.tape.specs.declared.layout.Place.{Place}
 use Rattle.tape.specs.declared.scan.Skipped.the-variants.{At}
-use Rattle.tape.specs.declared.node.Name.{Name}
-use Rattle.tape.specs.declared.node.EntryRead.the-variants as read
-use Rattle.tape.specs.declared.node.ValueRead.the-variants.{Value}
 use Rattle.tape.proofs.Acceptance.{RootOf}
 use Rattle.tape.proofs.Passing.{Passes}
 use Rattle.tape.proofs.Roots.{Accepted}
-use Rattle.tape.proofs.Runs.{place, Run, run-front, run-back, run-code, run-value, skip-run, size-run}
+use Rattle.tape.proofs.Runs.{place, Run, run-front, run-back, skip-run, size-run}
 
 -- ------------------------------------------------------------------ the place behind entries
 
@@ -67,9 +61,6 @@ pub accepted-inside : {A : Type 0} {root : Root A} {sort : ℕ} {s : List ℕ} {
     → Inside s l (place 0 0) (root .flat a)
 accepted-inside {a = a} r h = record { run = h .run; texted = r .passes a .texted }
 
-texted-first : {e : Entry} {es : List Entry} → WellTexted (e ∷ es) → textWidth (isText (e .code)) (e .value) ≡ length (e .text)
-texted-first h = sym (all-head h)
-
 module _ {s : List ℕ} {l : Layout} {p : Place} where
   -- two runs: the first at the place, the second behind it
   pub inside-front : (es fs : List Entry) → Inside s l p (es ++ fs) → Inside s l p es
@@ -81,28 +72,6 @@ module _ {s : List ℕ} {l : Layout} {p : Place} where
   -- the first entry, and where the others stand
   pub inside-next : (e : Entry) (es : List Entry) → Inside s l p (e ∷ es) → Inside s l (past (e ∷ []) p) es
   inside-next e es i = inside-back (e ∷ []) es i
-
-  pub is-entry : {e : Entry} {es : List Entry} → Inside s l p (e ∷ es) → entryAt s l p ≡ read.Entry (e .code) (e .value) (past (e ∷ []) p)
-  unfolding entryAt hasEntry hasText past
-  is-entry {e} {es} i =
-      let stands = i .run .stands in
-      rw (run-code (i .run), run-value (i .run), texted-first (i .texted))
-      (rw (
-        lt-ltb (l .codes + p .at) (length s) (stands-code stands .0),
-        le-leb (l .values + 8 * p .at + 8) (length s) (stands-value stands .0),
-        le-leb (l .text + p .text + length (e .text)) (length s) (stands-text stands .inside),
-      ))
-
-  pub is-expected : {e : Entry} {es : List Entry} → Inside s l p (e ∷ es) → expectAt s l p (e .code) ≡ Value (e .value) (past (e ∷ []) p)
-  unfolding expectAt
-  is-expected {e} i = rw (is-entry i, eq-eqb (e .code) (e .code) refl)
-
-  -- the name of the first entry
-  pub is-spelled : {e : Entry} {es : List Entry} → Inside s l p (e ∷ es) → nameAt s l (named p (length (e .text))) ≡ e .text
-  unfolding nameAt
-  is-spelled {e} i =
-      let t = stands-text (i .run .stands) in
-      rw (le-leb (l .text + p .text + length (e .text)) (length s) (t .inside)) (t .spelled)
 
 -- ------------------------------------------------------------------ runs
 
@@ -192,9 +161,3 @@ parts-of own es rest i r =
       read = r;
       runs = rw past-append (runs-from es rest (inside-back own (joined es rest) i));
     }
-
--- A name that is read, and the text that spells it.
-pub record Named (s : List ℕ) (l : Layout) (Reads : Name → Type 0) (text : Text) : Type 0 where
-  pub name : Name
-  pub read : Reads name
-  pub spelled : nameAt s l name ≡ text

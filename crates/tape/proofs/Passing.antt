@@ -20,7 +20,7 @@ use Rattle.grammar.specs.Grammar.{Follows, once, each, sortsOf, inSort, rowAt, 
 use Rattle.tape.specs.Layouts.{headOf}
 use Rattle.grammar.specs.Waits.{Wait, wait, waits, valued, counted, accepts, deeper, enclosed, exceeds}
 use Rattle.tape.specs.Scan.{scanOf}
-use Rattle.tape.proofs.Tests.{and-left, and-right, and-both, is-true, from-true, same-test}
+use Rattle.format.proofs.Tests.{and-left, and-right, and-both, is-true, from-true, same-test}
 
 -- ------------------------------------------------------------------ what a test reports
 

@@ -21,7 +21,7 @@ use Rattle.format.proofs.Stands.{part-cons, length-part, stands-code, stands-va
 use Rattle.tape.specs.Layouts.{codeAt, valueAt, widthAt, entriesAt}
 use Rattle.tape.specs.Pick.{pick}
 use Rattle.tape.specs.declared.layout.Layout.{Layout}
-use Rattle.tape.proofs.Tests.{same-test}
+use Rattle.format.proofs.Tests.{same-test}
 
 -- how much text entries take
 abbrev pub widthsOf : List Entry → ℕ

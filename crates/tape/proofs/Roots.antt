@@ -4,7 +4,7 @@ use Prim.Native.Nat.{ℕ, zero, suc, _+_, _*_, _^_, _≤_, _<_, max}
 use mathlib.Core.Path.{_≡_, refl, ap, sym, _∙_, subst}
 use mathlib.Core.Bool.{Bool, true, _&&_, and-true, and-assoc, and-comm}
 use mathlib.Core.List.{List, [], _∷_}
-use native.Mathlib.Nat.{add-zero, pow-suc, pow-le-pow-right, lt-of-lt-of-le}
+use native.Mathlib.Nat.{add-zero, pow-le-pow-right, lt-of-lt-of-le}
 use native.Mathlib.Omega.{arith}
 use lib.Dec.{T, leb, leb→le, le→leb, lit<}
 use lib.ListN.{length, drop, getD, length-take, length-drop}
@@ -13,11 +13,11 @@ use Rattle.format.specs.Entry.{encode, textOf}
 use Rattle.format.specs.Ast.{MacroDef}
 use Rattle.format.specs.Limits.{isNode, isCall, deepCondition, deepCall, deepBody, fitsSizes, fitsDepths}
 use Rattle.format.specs.Stands.{part, Stands}
-use Rattle.format.specs.Tape.{Reading, fromLe, Root, smallBody, smallBodies, conditionRoot, callRoot, definitionRoot, registryRoot, shortTexts, read, Bytes}
-use Rattle.format.proofs.Accepted.{Values64, InRange, accepted-on-tape, bytes-take, bytes-drop}
+use Rattle.format.specs.Tape.{Reading, Root, smallBody, smallBodies, conditionRoot, callRoot, definitionRoot, registryRoot, shortTexts, read, Bytes}
+use Rattle.format.proofs.Accepted.{Values64, InRange, accepted-on-tape, fromLe-lt, bytes-take, bytes-drop}
 use Rattle.format.proofs.All.{all-nil, all-cons}
 use Rattle.format.proofs.Builds.{rooted-condition, rooted-call, rooted-definition, rooted-registry}
-use Rattle.format.proofs.Spells.{s-condition-root, s-call-root, s-definition-root, s-registry-root}
+use Rattle.format.proofs.Spells.{s-condition-root, s-call, s-definition, s-registry-root}
 use Rattle.format.proofs.Stands.{stands-encoded}
 use Rattle.tape.specs.Accept.{acceptOf}
 use Rattle.tape.specs.Header.{entriesOf, sizeOf}
@@ -27,7 +27,7 @@ use Rattle.tape.specs.declared.header.Opened.the-variants.{Tape}
 use Rattle.tape.specs.declared.layout.Layout.{Layout}
 use Rattle.tape.proofs.Acceptance.{RootOf, Holds, Answers, answers-2, answers-3, answers-tape, answers}
 use Rattle.tape.proofs.Runs.{place, Run}
-use Rattle.tape.proofs.Tests.{and-left, and-right, and-both, same-test}
+use Rattle.format.proofs.Tests.{and-left, and-right, and-both, same-test}
 use Rattle.tape.proofs.Trees.{passes-condition, passes-call, passes-definition, deepBodies, fewParams, passes-registry}
 
 -- ------------------------------------------------------------------ condition, call and definition
@@ -55,7 +55,7 @@ call-root =
       is-sort = omega arith;
       tree = λ x. x;
       spelled = λ x. refl;
-      sound = s-call-root;
+      sound = s-call;
       rooted = rooted-call;
       deep = λ c p. deepCall p c;
       listed = λ c. true;
@@ -71,7 +71,7 @@ definition-root =
       is-sort = omega arith;
       tree = λ x. x;
       spelled = λ x. refl;
-      sound = s-definition-root;
+      sound = s-definition;
       rooted = rooted-definition;
       deep = λ d p. deepBody p (d .body);
       listed = λ d. leb (length (d .params)) 16;
@@ -138,18 +138,11 @@ registry-root =
 
 -- ------------------------------------------------------------------ what an accepted slice holds
 
-below-256 : (bs : List ℕ) → Bytes bs → fromLe bs < 256 ^ length bs
-unfolding fromLe
-below-256 [] h = lit< tt
-below-256 (b ∷ bs) h =
-    let g = below-256 bs (h .1) in
-    rw (pow-suc 256 (length bs)) (omega (arith, h .0))
-
 value-64 : (s : List ℕ) (l : Layout) (at : ℕ) → Bytes s → valueAt s l at < 256 ^ 8
 value-64 s l at h =
     let x = part s (l .values + 8 * at) 8 in
     let k : length x ≤ 8 = omega (arith, length-take 8 (drop (l .values + 8 * at) s)) in
-    lt-of-lt-of-le (below-256 x (bytes-take 8 (drop (l .values + 8 * at) s) (bytes-drop (l .values + 8 * at) s h)))
+    lt-of-lt-of-le (fromLe-lt x (bytes-take 8 (drop (l .values + 8 * at) s) (bytes-drop (l .values + 8 * at) s h)))
     (pow-le-pow-right {n = 256} (lit< tt) {i = length x} {j = 8} k)
 
 values-64 : (s : List ℕ) (l : Layout) (n at txt : ℕ) → Bytes s → Values64 (entriesAt s l at txt n)

@@ -7,15 +7,15 @@ use mathlib.Core.Bool.{Bool, true, false, not, _&&_}
 use mathlib.Core.List.{List, [], _∷_, _++_, map}
 use native.Mathlib.Omega.{arith}
 use borrow.Author.Tests.{le-leb}
-use lib.Dec.{T, leb, leb→le, le→leb}
+use lib.Dec.{leb, leb→le, le→leb}
 use lib.ListN.{length, length-append}
 use Rattle.definition.specs.Size.{size}
 use Rattle.format.specs.Entry.{Entry, entry, codesOf, textOf}
 use Rattle.format.specs.Limits.{isNode, isCall, fitsDepths}
 use Rattle.format.specs.Stands.{Stands}
 use Rattle.format.proofs.Accepted.{length-codes, Values64}
-use Rattle.format.proofs.All.{all-left, all-right, all-head, all-tail}
-use Rattle.format.proofs.Stands.{text-append, stands-front, stands-back, stands-code, stands-value, stands-next}
+use Rattle.format.proofs.All.{all-left, all-right, all-head}
+use Rattle.format.proofs.Stands.{text-append, stands-front, stands-back, stands-code, stands-value}
 use Rattle.tape.specs.Layouts.{layout, areaLayout, Held, holds, codeAt, valueAt, entriesAt, sizeBetween}
 use Rattle.tape.specs.Scan.{scanOf, starts, scanAt, behind, skipAt, overOf, tooDeep}
 use Rattle.tape.specs.declared.layout.Layout.{Layout}
@@ -25,7 +25,7 @@ use Rattle.tape.specs.declared.scan.Skipped.the-variants.{At}
 use Rattle.tape.proofs.Holding.{holding, starting}
 use Rattle.tape.proofs.Passing.{Passes, reported}
 use Rattle.tape.proofs.Places.{entries-stand}
-use Rattle.tape.proofs.Tests.{and-left, and-right, and-both, is-true}
+use Rattle.format.proofs.Tests.{and-left, and-right, and-both, is-true}
 
 -- the place n entries and t text bytes further on
 abbrev pub place : ℕ → ℕ → Place
@@ -69,25 +69,13 @@ module _ {s : List ℕ} {l : Layout} {p : Place} where
         small-values = all-right es (r .small-values);
       }
 
-  -- the first entry, as it is read, and where the others stand
+  -- the first entry, as it is read
   module _ {e : Entry} {es : List Entry} (r : Run s l p (e ∷ es)) where
     pub run-code : codeAt s l (p .at) ≡ e .code
     run-code = stands-code (r .stands) .1
 
     pub run-value : valueAt s l (p .at) ≡ e .value
     run-value = stands-value (r .stands) .1 (all-head (r .small-values))
-
-    pub run-next : Run s l (place (p .at + 1) (p .text + length (e .text))) es
-    unfolding textOf
-    run-next =
-        let t = length-append (e .text) (textOf es) in
-        record {
-          held = r .held;
-          stands = stands-next (r .stands);
-          entries-left = omega (arith, r .entries-left);
-          text-left = omega (arith, r .text-left);
-          small-values = all-tail (r .small-values);
-        }
 
 -- ------------------------------------------------------------------ the scan of a run
 

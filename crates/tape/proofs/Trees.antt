@@ -221,9 +221,6 @@ mutual
   each-term Terms.noTerms = none
   each-term (Terms.consTerm t ts) = passes-term t then each-term ts
 
-pub passes-args : (args : CallArgs) → Passes (22 ∷ []) (entry 41 (lengthArgs args) ∷ flatArgs args) (λ p. deepArgs p args) true
-passes-args args = list-args args (each-arg args)
-
 pub passes-fields : (fs : NamedArgs) → Passes (20 ∷ []) (entry 41 (lengthFields fs) ∷ flatFields fs) (λ p. deepFields p fs) true
 passes-fields fs = list-fields fs (each-field fs)
 

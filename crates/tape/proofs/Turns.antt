@@ -21,7 +21,7 @@ use Rattle.tape.specs.declared.scan.Scanned.{Scanned}
 use Rattle.tape.specs.declared.scan.Scanned.the-variants.{Ends, Malformed}
 use Rattle.grammar.specs.declared.stack.Cell.{Cell}
 use Rattle.grammar.proofs.Cells.{top-cell, first-wait}
-use Rattle.tape.proofs.Tests.{and-left, and-right, from-true}
+use Rattle.format.proofs.Tests.{and-left, and-right, from-true}
 
 pub length-entries : (s : List ℕ) (l : Layout) (at txt n : ℕ) → length (entriesAt s l at txt n) ≡ n
 length-entries s l at txt zero = refl

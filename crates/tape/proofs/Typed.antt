@@ -49,7 +49,7 @@ use Rattle.tape.specs.declared.scan.Scanned.{Scanned}
 use Rattle.tape.specs.declared.scan.Scanned.the-variants.{Ends, Malformed}
 use Rattle.tape.proofs.Passing.{allowed}
 use Rattle.tape.proofs.Places.{widthsOf}
-use Rattle.tape.proofs.Tests.{and-left, and-right, and-both, from-true, is-true}
+use Rattle.format.proofs.Tests.{and-left, and-right, and-both, from-true, is-true}
 
 -- ------------------------------------------------------------------ a type of trees for each sort
 

@@ -3,12 +3,10 @@
 use Prim.Native.Nat.{ℕ}
 use mathlib.Core.List.{List}
 use mathlib.Core.Bool.{true}
-use lib.ListN.{length, drop}
+use lib.ListN.{drop}
 use lib.Dec.{eqb}
-use Rattle.format.specs.Entry.{textOf}
-use Rattle.format.specs.Tape.{Reading, Root, printable}
+use Rattle.format.specs.Tape.{printable}
 use Rattle.tape.specs.Header.{openOf}
-use Rattle.tape.specs.Layouts.{tapeLayout}
 use Rattle.tape.specs.Pick.{pick}
 use Rattle.tape.specs.Scan.{scanAt}
 use Rattle.tape.specs.declared.header.Opened.{Opened}
@@ -33,9 +31,3 @@ afterOpen s sort (Refused n) = Refused n
 
 abbrev pub acceptOf : List ℕ → ℕ → Opened
 acceptOf s sort = afterOpen s sort (openOf s)
-
--- what is answered to a reading: 2, 3, or the layout of the tape that spells the tree
-abbrev pub answered : {A : Type 0} → Root A → Reading A → Opened
-answered root Reading.malformed = Refused 2
-answered root Reading.tooLarge = Refused 3
-answered root (Reading.accepted a) = Tape (tapeLayout (length (root .flat a)) (length (textOf (root .flat a))))

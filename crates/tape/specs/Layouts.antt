@@ -11,6 +11,7 @@ use Rattle.format.specs.Stands.{part}
 use Rattle.format.specs.Tape.{fromLe, isText, textWidth}
 use Rattle.tape.specs.Pick.{pick}
 use Rattle.tape.specs.declared.layout.Layout.{Layout}
+use Rattle.tape.specs.declared.layout.Place.{Place}
 use Rattle.grammar.specs.declared.entry.Head.{Head}
 
 abbrev pub layout : ℕ → ℕ → ℕ → ℕ → ℕ → Layout
@@ -59,6 +60,10 @@ entriesAt s l at txt zero = []
 entriesAt s l at txt (suc n) =
     record { code = codeAt s l at; value = valueAt s l at; text = part s (l .text + txt) (widthAt s l at) }
     ∷ entriesAt s l (at + 1) (txt + widthAt s l at) n
+
+-- the place behind an entry with `size` bytes of text
+abbrev pub onward : Place → ℕ → Place
+onward p size = record { at = p .at + 1; text = p .text + size }
 
 -- the codes of the entries from `from` to `to`, as entries of which only the code is known
 abbrev pub codesBetween : List ℕ → Layout → ℕ → ℕ → List Entry

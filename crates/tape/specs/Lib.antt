@@ -5,4 +5,3 @@ pub mod Header
 pub mod Scan
 pub mod Turn
 pub mod Accept
-pub mod Node

@@ -36,7 +36,7 @@ pub enum Skipped {
     Nowhere,
 }
 
-pub fn head_at(s: &[u8], l: Layout, at: usize) -> Head
+fn head_at(s: &[u8], l: Layout, at: usize) -> Head
     requires { ⌜ (l .codes + at < length (now s)) × (l .values + 8 * at + 8 ≤ length (now s)) ⌝ }
     ensures { λ r. ⌜ r ≡ headAt (now (s .entry)) l at ⌝ }
 {
@@ -53,6 +53,7 @@ enum Turn {
     Passed(usize, usize, bool),
 }
 
+// Takes the entry at a place off the top of the stack, and puts what it brings there.
 fn take_entry(
     stack: &mut [u64],
     grammar: &[u64],

@@ -19,7 +19,7 @@ fn counted(counts: &[u64; 320], kind: usize) -> u64 {
     if kind < 320 { counts[kind] } else { 0 }
 }
 
-fn print_operation(operation: usize) {
+fn print_operation(operation: usize) -> bool {
     match operation {
         1 => io::write_all(STDOUT_FILENO, b"check "),
         2 => io::write_all(STDOUT_FILENO, b"registry "),
@@ -27,7 +27,6 @@ fn print_operation(operation: usize) {
         4 => io::write_all(STDOUT_FILENO, b"expand "),
         _ => io::write_all(STDOUT_FILENO, b"unknown "),
     }
-    ;
 }
 
 fn print_counts(all: u64, good: u64) {

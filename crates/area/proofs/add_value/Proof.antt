@@ -3,7 +3,7 @@
 use mathlib.Core.Path.{sym}
 use denote.Ref.{now}
 use borrow.Author.Needs.{needs}
-use Rattle.area.specs.Area.{paper}
+use Rattle.area.specs.Area.{areaIn}
 use Rattle.area.proofs.Patch.{patch-there}
 use Rattle.area.proofs.add_value.Statement.{statement}
 use Rattle.area.proofs.add_value.Tie as tie
@@ -12,7 +12,7 @@ returns : tie.Need-returns
 returns c =
     let p = c .before .before .before .before .before .before .before .before .before .before .before .args in
     rw (c .before .before .write .ensures, c .before .before .before .before .value-bytes .ensures, c .before .before .before .before .before .before .wrapping-add-u64 .ensures, c .before .before .before .before .before .before .before .read-value .ensures)
-    (sym (patch-there (p .index) (p .added) (paper (p .out) (now (p .s))) (c .before .before .before .before .before .before .before .before .before .before .before .pre)))
+    (sym (patch-there (p .index) (p .added) (areaIn (p .out) (now (p .s))) (c .before .before .before .before .before .before .before .before .before .before .before .pre)))
 
 pub add-value-spec : {M : Type 1} → statement M
 add-value-spec =

@@ -2,7 +2,7 @@
 -- Assumes nothing.
 use denote.Ref.{now}
 use borrow.Author.Needs.{needs}
-use Rattle.area.specs.Area.{paper, loseIn}
+use Rattle.area.specs.Area.{areaIn, loseIn}
 use Rattle.area.proofs.Room.{append-out-none}
 use Rattle.area.proofs.append_out.Statement.{statement}
 use Rattle.area.proofs.append_out.Tie as tie
@@ -15,7 +15,7 @@ unfolding loseIn
 returns-2 c =
     let p = c .before .before .before .before .before .args in
     rw (c .lose .ensures)
-    (append-out-none (paper (p .other) (now (p .from))) (paper (p .out) (now (p .s))) (c .before .before .has-room .ensures .fails (c .before .if1 .left)))
+    (append-out-none (areaIn (p .other) (now (p .from))) (areaIn (p .out) (now (p .s))) (c .before .before .has-room .ensures .fails (c .before .if1 .left)))
 
 pub append-out-spec : {M : Type 1} → statement M
 append-out-spec =

@@ -3,7 +3,7 @@
 use mathlib.Core.Path.{_∙_}
 use denote.Ref.{now}
 use borrow.Author.Needs.{needs}
-use Rattle.area.specs.Area.{paper}
+use Rattle.area.specs.Area.{areaIn}
 use Rattle.area.proofs.Tape.{none-written}
 use Rattle.area.proofs.finish.Statement.{statement}
 use Rattle.area.proofs.finish.Tie as tie
@@ -14,7 +14,7 @@ write-tape-requires c κs = c .before .before .has-room .ensures .holds (c .befo
 returns-2 : tie.Need-returns-2
 returns-2 c =
     let p = c .before .before .before .before .before .before .before .before .args in
-    c .before .before .zero .ensures ∙ none-written (paper (p .out) (now (p .s))) (now (p .result)) (c .before .before .before .before .before .has-room .ensures .fails (c .before .before .before .before .if1 .left))
+    c .before .before .zero .ensures ∙ none-written (areaIn (p .out) (now (p .s))) (now (p .result)) (c .before .before .before .before .before .has-room .ensures .fails (c .before .before .before .before .if1 .left))
 
 pub finish-spec : {M : Type 1} → statement M
 finish-spec =

@@ -4,7 +4,7 @@ use mathlib.Core.Path.{sym}
 use native.Mathlib.Omega.{arith}
 use denote.Ref.{now}
 use borrow.Author.Needs.{needs}
-use Rattle.area.specs.Area.{paper}
+use Rattle.area.specs.Area.{areaIn}
 use Rattle.area.proofs.Patch.{patch-none}
 use Rattle.area.proofs.patch_count.Statement.{statement}
 use Rattle.area.proofs.patch_count.Tie as tie
@@ -15,12 +15,12 @@ add-value-requires c κs = (c .before .before .has-room .ensures .holds (c .befo
 returns-2 : tie.Need-returns-2
 returns-2 c =
     let p = c .before .before .before .before .before .args in
-    sym (patch-none (p .index) (p .added) (paper (p .out) (now (p .s))) (λ h. c .before .has-room .ensures .fails (c .if2 .left) (h .0)))
+    sym (patch-none (p .index) (p .added) (areaIn (p .out) (now (p .s))) (λ h. c .before .has-room .ensures .fails (c .if2 .left) (h .0)))
 
 returns-3 : tie.Need-returns-3
 returns-3 c =
     let p = c .before .before .before .args in
-    sym (patch-none (p .index) (p .added) (paper (p .out) (now (p .s))) (λ h. omega (arith, h .1)))
+    sym (patch-none (p .index) (p .added) (areaIn (p .out) (now (p .s))) (λ h. omega (arith, h .1)))
 
 pub patch-count-spec : {M : Type 1} → statement M
 patch-count-spec =

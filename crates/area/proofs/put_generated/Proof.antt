@@ -4,7 +4,7 @@ use native.Mathlib.Omega.{arith}
 use denote.Ref.{now}
 use borrow.Author.Needs.{needs}
 use Rattle.definition.proofs.Decimal.{decimal-length}
-use Rattle.area.specs.Area.{paper, loseIn, generated}
+use Rattle.area.specs.Area.{areaIn, loseIn, generated}
 use Rattle.area.proofs.Generated.{length-generated, put-text-full}
 use Rattle.area.proofs.put_generated.Statement.{statement}
 use Rattle.area.proofs.put_generated.Tie as tie
@@ -24,7 +24,7 @@ returns-2 c =
     let p = c .before .before .before .before .before .before .args in
     let l = length-generated (now (p .name)) (p .start) in
     rw (c .lose .ensures)
-    (put-text-full (p .code) (generated (now (p .name)) (p .start)) (paper (p .out) (now (p .s)))
+    (put-text-full (p .code) (generated (now (p .name)) (p .start)) (areaIn (p .out) (now (p .s)))
     (λ room. c .before .before .has-room .ensures .fails (c .before .if1 .left) (rw (l, ← (c .before .before .before .digit-count .ensures)) at room)))
 
 pub put-generated-spec : {M : Type 1} → statement M

@@ -2,14 +2,14 @@
 -- Assumes nothing.
 use denote.Ref.{now}
 use borrow.Author.Needs.{needs}
-use Rattle.area.specs.Area.{paper}
+use Rattle.area.specs.Area.{areaIn}
 use Rattle.area.proofs.Tape.{tape-written}
 use Rattle.area.proofs.write_tape.Statement.{statement}
 use Rattle.area.proofs.write_tape.Tie as tie
 
 returns : tie.Need-returns
 returns c =
-    tape-written (paper (c .before .before .before .before .before .before .before .before .before .before .before .before .before .before .before .before .before .before .before .before .before .before .args .out) (now (c .before .before .before .before .before .before .before .before .before .before .before .before .before .before .before .before .before .before .before .before .before .before .args .s))) (c .before .before .before .before .before .before .before .before .before .before .before .before .before .before .before .before .before .before .before .before .before .before .pre) (now (c .before .before .before .before .before .before .before .before .before .before .before .before .before .before .before .before .before .before .before .before .before .before .args .result)) _ _ _ _ _ (c .before .before .before .before .before .before .before .before .before .before .before .before .before .before .before .before .before .before .write-sizes .ensures)
+    tape-written (areaIn (c .before .before .before .before .before .before .before .before .before .before .before .before .before .before .before .before .before .before .before .before .before .before .args .out) (now (c .before .before .before .before .before .before .before .before .before .before .before .before .before .before .before .before .before .before .before .before .before .before .args .s))) (c .before .before .before .before .before .before .before .before .before .before .before .before .before .before .before .before .before .before .before .before .before .before .pre) (now (c .before .before .before .before .before .before .before .before .before .before .before .before .before .before .before .before .before .before .before .before .before .before .args .result)) _ _ _ _ _ (c .before .before .before .before .before .before .before .before .before .before .before .before .before .before .before .before .before .before .write-sizes .ensures)
     (c .before .before .before .before .before .before .before .before .before .before .before .before .before .before .write-section .ensures) (c .before .before .before .before .before .before .before .before .before .before .write-section2 .ensures) (c .before .before .before .before .before .before .write-section3 .ensures) (c .before .before .zero-from .ensures)
 
 pub write-tape-spec : {M : Type 1} → statement M

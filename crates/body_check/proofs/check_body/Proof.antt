@@ -1,7 +1,7 @@
 -- `body_check::check_body` meets its contract.
 -- Assumes nothing.
 use borrow.Author.Needs.{needs}
-use Rattle.body_check.proofs.Walking.{cedar-body, condition-body, value-body}
+use Rattle.body_check.proofs.Steps.{cedar-body, condition-body, value-body}
 use Rattle.body_check.proofs.check_body.Statement.{statement}
 use Rattle.body_check.proofs.check_body.Tie as tie
 

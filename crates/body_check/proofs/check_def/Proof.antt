@@ -1,7 +1,7 @@
 -- `body_check::check_def` meets its contract.
 -- Assumes nothing.
 use borrow.Author.Needs.{needs}
-use Rattle.body_check.proofs.Walking.{def-unread, def-unlisted, def-bodiless, def-walked}
+use Rattle.body_check.proofs.Steps.{def-unread, def-unlisted, def-bodiless, def-walked}
 use Rattle.body_check.proofs.check_def.Statement.{statement}
 use Rattle.body_check.proofs.check_def.Tie as tie
 

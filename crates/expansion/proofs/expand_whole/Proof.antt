@@ -11,6 +11,9 @@ expand-whole-spec =
     (tie.spec
     (λ c κs. search needs)
     (λ c κs. search needs)
+    (λ c κs. search needs)
     (λ c. search needs)
     (λ c. search needs)
-    (λ c. whole-walked _ _ _ (c .before .before .before .before .before .before .expand-temporal-condition .ensures) (c .fits2 .ensures)))
+    (λ c.
+    whole-walked _ _ _ (c .before .before .before .before .before .before .before .before .before .empty .ensures)
+    (c .before .before .before .before .before .before .expand-condition .ensures) (c .fits2 .ensures)))

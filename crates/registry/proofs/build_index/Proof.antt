@@ -1,10 +1,10 @@
 -- `registry::build_index` meets its contract. The invariant: the names of the definitions that are left, after those before them, are judged as all are.
 -- Assumes nothing.
-use Prim.Native.Nat.{_-_, _*_, _≤_}
+use Prim.Native.Nat.{_-_, _*_}
 use native.Mathlib.Omega.{arith}
 use borrow.Author.Needs.{needs}
 use mathlib.Core.Path.{_≡_, refl}
-use lib.ListN.{length, drop, length-drop}
+use lib.ListN.{drop}
 use Rattle.registry.specs.Places.{placesIn, buildFromAt, buildAt}
 use Rattle.registry.proofs.Steps.{build-start, build-done, build-short, build-refused, build-more, table-room, rest-next}
 use Rattle.registry.proofs.build_index.Statement.{statement}

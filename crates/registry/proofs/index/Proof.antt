@@ -1,8 +1,6 @@
 -- `registry::index` meets its contract.
 -- Assumes nothing.
 use borrow.Author.Needs.{needs}
-use mathlib.Core.Path.{refl, _∙_}
-use Rattle.registry.specs.Places.{indexAt, placesIn}
 use Rattle.registry.proofs.Steps.{index-listed, index-unlisted}
 use Rattle.registry.proofs.index.Statement.{statement}
 use Rattle.registry.proofs.index.Tie as tie

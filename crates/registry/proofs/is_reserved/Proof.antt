@@ -1,7 +1,6 @@
 -- `registry::is_reserved` meets its contract.
 -- Assumes nothing.
 use borrow.Author.Needs.{needs}
-use mathlib.Core.List.{List}
 use lib.ListN.{drop}
 use Rattle.definition.specs.Text.{openText}
 use Rattle.definition.specs.Registry.{reservedNames}

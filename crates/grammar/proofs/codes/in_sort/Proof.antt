@@ -4,15 +4,12 @@ use mathlib.Core.Path.{_≡_, sym}
 use lib.ListN.{getD, List·getD-eq-default}
 use lib.Dec.{leb, leb→le}
 use Rattle.grammar.specs.Grammar.{sorts, noSort}
-use Rattle.grammar.proofs.Tests.{and-left, and-right, is-false}
+use Rattle.format.proofs.Tests.{and-left, and-right, is-false}
 use Rattle.grammar.proofs.Words.{words-length, low-is, high-is}
 use borrow.Author.Needs.{needs}
 use native.Mathlib.Omega.{arith}
 use Rattle.grammar.proofs.codes.in_sort.Statement.{statement}
 use Rattle.grammar.proofs.codes.in_sort.Tie as tie
-use Rattle.grammar.proofs.codes.in_sort.Reads as reads
-use Rattle.grammar.proofs.codes.in_sort.Lts as lts
-use Rattle.grammar.proofs.codes.both.Reads as both-reads
 
 returns : tie.Need-returns
 returns c =

@@ -9,8 +9,6 @@ use borrow.Author.Needs.{needs}
 use native.Mathlib.Omega.{arith}
 use Rattle.grammar.proofs.codes.row_at.Statement.{statement}
 use Rattle.grammar.proofs.codes.row_at.Tie as tie
-use Rattle.grammar.proofs.codes.row_at.Reads as reads
-use Rattle.grammar.proofs.codes.row_at.Lts as lts
 
 returns : tie.Need-returns
 unfolding followsOf

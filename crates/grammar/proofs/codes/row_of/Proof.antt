@@ -4,9 +4,6 @@ use borrow.Author.Tests.{lt-ltb, le-ltb}
 use borrow.Author.Needs.{needs}
 use Rattle.grammar.proofs.codes.row_of.Statement.{statement}
 use Rattle.grammar.proofs.codes.row_of.Tie as tie
-use Rattle.grammar.proofs.codes.row_of.Reads as reads
-use Rattle.grammar.proofs.codes.row_of.Lts as lts
-use Rattle.grammar.proofs.codes.row_at.Reads as row-at-reads
 
 row-at-requires : tie.Need-row-at-requires
 row-at-requires c κs = c .before .before .pre .0

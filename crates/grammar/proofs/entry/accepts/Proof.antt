@@ -4,12 +4,6 @@ use mathlib.Core.Path.{_∙_}
 use borrow.Author.Needs.{needs}
 use Rattle.grammar.proofs.entry.accepts.Statement.{statement}
 use Rattle.grammar.proofs.entry.accepts.Tie as tie
-use Rattle.grammar.proofs.entry.accepts.Reads as reads
-use Rattle.grammar.proofs.entry.accepts.Lts as lts
-use Rattle.grammar.proofs.codes.both.Reads as both-reads
-use Rattle.grammar.proofs.codes.either.Reads as either-reads
-use Rattle.grammar.proofs.codes.in_sort.Reads as in-sort-reads
-use Rattle.grammar.proofs.entry.count_of.Reads as count-of-reads
 
 in-sort-requires : tie.Need-in-sort-requires
 in-sort-requires c κs = c .before .before .before .before .before .pre

@@ -6,12 +6,6 @@ use borrow.Author.Needs.{needs}
 use native.Mathlib.Omega.{arith}
 use Rattle.grammar.proofs.entry.advance.Statement.{statement}
 use Rattle.grammar.proofs.entry.advance.Tie as tie
-use Rattle.grammar.proofs.entry.advance.Reads as reads
-use Rattle.grammar.proofs.entry.advance.Lts as lts
-use Rattle.grammar.proofs.kind.is_node.Reads as is-node-reads
-use Rattle.grammar.proofs.entry.raised.Reads as raised-reads
-use Rattle.grammar.proofs.stack.drop_first.Reads as drop-first-reads
-use Rattle.grammar.proofs.stack.push.Reads as push-reads
 
 returns : tie.Need-returns
 unfolding isCall

@@ -5,9 +5,6 @@ use borrow.Author.Needs.{needs}
 use Rattle.grammar.proofs.Cells.{counted-each, counted-once}
 use Rattle.grammar.proofs.entry.count_of.Statement.{statement}
 use Rattle.grammar.proofs.entry.count_of.Tie as tie
-use Rattle.grammar.proofs.entry.count_of.Reads as reads
-use Rattle.grammar.proofs.entry.count_of.Lts as lts
-use Rattle.grammar.proofs.codes.is_each.Reads as is-each-reads
 
 returns : tie.Need-returns
 returns c =

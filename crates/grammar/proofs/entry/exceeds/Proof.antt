@@ -5,12 +5,6 @@ use Rattle.format.specs.Limits.{isCall}
 use borrow.Author.Needs.{needs}
 use Rattle.grammar.proofs.entry.exceeds.Statement.{statement}
 use Rattle.grammar.proofs.entry.exceeds.Tie as tie
-use Rattle.grammar.proofs.entry.exceeds.Reads as reads
-use Rattle.grammar.proofs.entry.exceeds.Lts as lts
-use Rattle.grammar.proofs.codes.both.Reads as both-reads
-use Rattle.grammar.proofs.codes.either.Reads as either-reads
-use Rattle.grammar.proofs.kind.is_node.Reads as is-node-reads
-use Rattle.grammar.proofs.entry.longest.Reads as longest-reads
 
 returns : tie.Need-returns
 unfolding isCall

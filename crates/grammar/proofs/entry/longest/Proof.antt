@@ -10,8 +10,6 @@ use Rattle.format.specs.Tape.{longestText}
 use Rattle.grammar.proofs.Table.{decided}
 use Rattle.grammar.proofs.entry.longest.Statement.{statement}
 use Rattle.grammar.proofs.entry.longest.Tie as tie
-use Rattle.grammar.proofs.entry.longest.Reads as reads
-use Rattle.grammar.proofs.entry.longest.Lts as lts
 
 abbrev long : ℕ → Bool
 long k = isCode (22 ∷ 23 ∷ []) k

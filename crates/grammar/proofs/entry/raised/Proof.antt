@@ -5,8 +5,6 @@ use borrow.Author.Needs.{needs}
 use Rattle.format.specs.Limits.{weigh}
 use Rattle.grammar.proofs.entry.raised.Statement.{statement}
 use Rattle.grammar.proofs.entry.raised.Tie as tie
-use Rattle.grammar.proofs.entry.raised.Reads as reads
-use Rattle.grammar.proofs.entry.raised.Lts as lts
 
 returns : tie.Need-returns
 unfolding weigh

@@ -6,8 +6,6 @@ use Rattle.format.specs.Limits.{isNode}
 use Rattle.grammar.proofs.Table.{decided}
 use Rattle.grammar.proofs.kind.is_node.Statement.{statement}
 use Rattle.grammar.proofs.kind.is_node.Tie as tie
-use Rattle.grammar.proofs.kind.is_node.Reads as reads
-use Rattle.grammar.proofs.kind.is_node.Lts as lts
 
 returns : tie.Need-returns
 unfolding isNode

@@ -11,9 +11,6 @@ use Rattle.grammar.specs.declared.kind.ValueKind.{ValueKind}
 use Rattle.grammar.specs.declared.kind.ValueKind.the-variants.{Text, Span, Count, Plain}
 use Rattle.grammar.proofs.kind.text_width.Statement.{statement}
 use Rattle.grammar.proofs.kind.text_width.Tie as tie
-use Rattle.grammar.proofs.kind.text_width.Reads as reads
-use Rattle.grammar.proofs.kind.text_width.Lts as lts
-use Rattle.grammar.proofs.kind.kind_of.Reads as kind-of-reads
 
 abbrev wide : ValueKind → ℕ → ℕ
 wide Text v = v

@@ -11,9 +11,6 @@ use native.Mathlib.Omega.{arith}
 use denote.Ref.{now}
 use Rattle.grammar.proofs.stack.drop_first.Statement.{statement}
 use Rattle.grammar.proofs.stack.drop_first.Tie as tie
-use Rattle.grammar.proofs.stack.drop_first.Reads as reads
-use Rattle.grammar.proofs.stack.drop_first.Lts as lts
-use Rattle.grammar.proofs.stack.put.Reads as put-reads
 
 returns : tie.Need-returns
 returns c =

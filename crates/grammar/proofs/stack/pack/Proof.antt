@@ -4,8 +4,6 @@ use Rattle.grammar.proofs.Cells.{packed}
 use borrow.Author.Needs.{needs}
 use Rattle.grammar.proofs.stack.pack.Statement.{statement}
 use Rattle.grammar.proofs.stack.pack.Tie as tie
-use Rattle.grammar.proofs.stack.pack.Reads as reads
-use Rattle.grammar.proofs.stack.pack.Lts as lts
 
 returns : tie.Need-returns
 returns c = packed (c .args .c) (c .pre)

@@ -10,10 +10,6 @@ use native.Mathlib.Omega.{arith}
 use denote.Ref.{now}
 use Rattle.grammar.proofs.stack.push.Statement.{statement}
 use Rattle.grammar.proofs.stack.push.Tie as tie
-use Rattle.grammar.proofs.stack.push.Reads as reads
-use Rattle.grammar.proofs.stack.push.Lts as lts
-use Rattle.grammar.proofs.codes.is_each.Reads as is-each-reads
-use Rattle.grammar.proofs.stack.put.Reads as put-reads
 
 returns : tie.Need-returns
 returns c =

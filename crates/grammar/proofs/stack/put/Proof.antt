@@ -10,9 +10,6 @@ use native.Mathlib.Omega.{arith}
 use denote.Ref.{now}
 use Rattle.grammar.proofs.stack.put.Statement.{statement}
 use Rattle.grammar.proofs.stack.put.Tie as tie
-use Rattle.grammar.proofs.stack.put.Reads as reads
-use Rattle.grammar.proofs.stack.put.Lts as lts
-use Rattle.grammar.proofs.stack.pack.Reads as pack-reads
 
 returns : tie.Need-returns
 returns c =

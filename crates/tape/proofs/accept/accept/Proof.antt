@@ -4,10 +4,6 @@ use mathlib.Core.Path.{_∙_}
 use borrow.Author.Needs.{needs}
 use Rattle.tape.proofs.accept.accept.Statement.{statement}
 use Rattle.tape.proofs.accept.accept.Tie as tie
-use Rattle.tape.proofs.accept.accept.Reads as reads
-use Rattle.tape.proofs.accept.accept.Lts as lts
-use Rattle.tape.proofs.accept.accept_in.Reads as accept-in-reads
-use Rattle.tape.proofs.header.open.Reads as open-reads
 
 returns : tie.Need-returns
 returns c =

@@ -4,11 +4,6 @@ use mathlib.Core.Path.{_∙_}
 use borrow.Author.Needs.{needs}
 use Rattle.tape.proofs.accept.accept_in.Statement.{statement}
 use Rattle.tape.proofs.accept.accept_in.Tie as tie
-use Rattle.tape.proofs.accept.accept_in.Reads as reads
-use Rattle.tape.proofs.accept.accept_in.Lts as lts
-use Rattle.tape.proofs.accept.judge.Reads as judge-reads
-use Rattle.tape.proofs.scan.scan.Reads as scan-reads
-use Rattle.tape.proofs.text.is_printable.Reads as is-printable-reads
 
 returns : tie.Need-returns
 returns c =

@@ -4,8 +4,6 @@ use borrow.Author.Tests.{eq-eqb, ne-eqb}
 use borrow.Author.Needs.{needs}
 use Rattle.tape.proofs.accept.judge.Statement.{statement}
 use Rattle.tape.proofs.accept.judge.Tie as tie
-use Rattle.tape.proofs.accept.judge.Reads as reads
-use Rattle.tape.proofs.accept.judge.Lts as lts
 
 returns-2 : tie.Need-returns-2
 returns-2 c = rw (c .before .before .found .given .1, ne-eqb _ _ (c .if1 .taken))

@@ -5,9 +5,6 @@ use Rattle.format.specs.Limits.{fitsSizes}
 use borrow.Author.Needs.{needs}
 use Rattle.tape.proofs.header.open.Statement.{statement}
 use Rattle.tape.proofs.header.open.Tie as tie
-use Rattle.tape.proofs.header.open.Reads as reads
-use Rattle.tape.proofs.header.open.Lts as lts
-use Rattle.tape.proofs.layout.of_tape.Reads as of-tape-reads
 
 returns : tie.Need-returns
 returns c = simp (lt-leb _ _ (c .if1 .taken))

@@ -8,11 +8,9 @@ use borrow.Author.Needs.{needs}
 use denote.Ref.{now}
 use lib.Dec.{leb→le, le→leb}
 use Rattle.tape.proofs.Holding.{held, holding}
-use Rattle.tape.proofs.Tests.{is-false, same-test}
+use Rattle.format.proofs.Tests.{is-false, same-test}
 use Rattle.tape.proofs.layout.holds.Statement.{statement}
 use Rattle.tape.proofs.layout.holds.Tie as tie
-use Rattle.tape.proofs.layout.holds.Reads as reads
-use Rattle.tape.proofs.layout.holds.Lts as lts
 
 returns : tie.Need-returns
 returns c =

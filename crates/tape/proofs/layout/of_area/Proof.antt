@@ -4,8 +4,6 @@ use borrow.Author.Needs.{needs}
 use borrow.Author.Tests.{le-leb, lt-leb}
 use Rattle.tape.proofs.layout.of_area.Statement.{statement}
 use Rattle.tape.proofs.layout.of_area.Tie as tie
-use Rattle.tape.proofs.layout.of_area.Reads as reads
-use Rattle.tape.proofs.layout.of_area.Lts as lts
 
 returns : tie.Need-returns
 returns c = simp (le-leb _ _ (c .if1 .taken))

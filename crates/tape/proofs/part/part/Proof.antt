@@ -4,9 +4,6 @@ use mathlib.Core.Path.{_∙_}
 use borrow.Author.Needs.{needs}
 use Rattle.tape.proofs.part.part.Statement.{statement}
 use Rattle.tape.proofs.part.part.Tie as tie
-use Rattle.tape.proofs.part.part.Reads as reads
-use Rattle.tape.proofs.part.part.Lts as lts
-use Rattle.tape.proofs.part.part_of.Reads as part-of-reads
 
 returns : tie.Need-returns
 returns c = c .part-of .ensures ∙ rw (c .before .if1 .taken)

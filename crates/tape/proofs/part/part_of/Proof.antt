@@ -8,8 +8,6 @@ use native.Mathlib.Omega.{arith}
 use denote.Ref.{now}
 use Rattle.tape.proofs.part.part_of.Statement.{statement}
 use Rattle.tape.proofs.part.part_of.Tie as tie
-use Rattle.tape.proofs.part.part_of.Reads as reads
-use Rattle.tape.proofs.part.part_of.Lts as lts
 
 returns : tie.Need-returns
 returns c = let a = c .before .before .args in sym (part-past (now (a .s)) (a .start) (a .len) (omega arith))

@@ -3,11 +3,6 @@
 use borrow.Author.Needs.{needs}
 use Rattle.tape.proofs.scan.head_at.Statement.{statement}
 use Rattle.tape.proofs.scan.head_at.Tie as tie
-use Rattle.tape.proofs.scan.head_at.Reads as reads
-use Rattle.tape.proofs.scan.head_at.Lts as lts
-use Rattle.grammar.proofs.kind.text_width.Reads as text-width-reads
-use Rattle.tape.proofs.layout.code_at.Reads as code-at-reads
-use Rattle.tape.proofs.layout.value_at.Reads as value-at-reads
 
 returns : tie.Need-returns
 returns c = rw (c .text-width .ensures, c .before .value-at .ensures, c .before .before .code-at .ensures)

@@ -2,15 +2,11 @@
 -- Assumes nothing.
 use mathlib.Core.Path.{sym, _∙_}
 use Rattle.tape.proofs.Holding.{started}
-use Rattle.tape.proofs.Tests.{from-true}
+use Rattle.format.proofs.Tests.{from-true}
 use borrow.Author.Needs.{needs}
 use denote.Ref.{now}
 use Rattle.tape.proofs.scan.scan.Statement.{statement}
 use Rattle.tape.proofs.scan.scan.Tie as tie
-use Rattle.tape.proofs.scan.scan.Reads as reads
-use Rattle.tape.proofs.scan.scan.Lts as lts
-use Rattle.tape.proofs.scan.scan_held.Reads as scan-held-reads
-use Rattle.tape.proofs.scan.starts.Reads as starts-reads
 
 scan-held-requires : tie.Need-scan-held-requires
 scan-held-requires c κs =

@@ -4,10 +4,6 @@ use mathlib.Core.Path.{_∙_}
 use borrow.Author.Needs.{needs}
 use Rattle.tape.proofs.scan.starts.Statement.{statement}
 use Rattle.tape.proofs.scan.starts.Tie as tie
-use Rattle.tape.proofs.scan.starts.Reads as reads
-use Rattle.tape.proofs.scan.starts.Lts as lts
-use Rattle.grammar.proofs.codes.both.Reads as both-reads
-use Rattle.tape.proofs.layout.holds.Reads as holds-reads
 
 returns : tie.Need-returns
 returns c =

@@ -10,14 +10,6 @@ use native.Mathlib.Omega.{arith}
 use denote.Ref.{now}
 use Rattle.tape.proofs.scan.take_entry.Statement.{statement}
 use Rattle.tape.proofs.scan.take_entry.Tie as tie
-use Rattle.tape.proofs.scan.take_entry.Reads as reads
-use Rattle.tape.proofs.scan.take_entry.Lts as lts
-use Rattle.grammar.proofs.codes.row_of.Reads as row-of-reads
-use Rattle.grammar.proofs.entry.accepts.Reads as accepts-reads
-use Rattle.grammar.proofs.entry.advance.Reads as advance-reads
-use Rattle.grammar.proofs.entry.exceeds.Reads as exceeds-reads
-use Rattle.tape.proofs.scan.head_at.Reads as head-at-reads
-use Rattle.grammar.proofs.stack.unpack.Reads as unpack-reads
 
 returns : tie.Need-returns
 returns c =

@@ -3,9 +3,6 @@
 use borrow.Author.Needs.{needs}
 use Rattle.tape.proofs.scan.too_deep.Statement.{statement}
 use Rattle.tape.proofs.scan.too_deep.Tie as tie
-use Rattle.tape.proofs.scan.too_deep.Reads as reads
-use Rattle.tape.proofs.scan.too_deep.Lts as lts
-use Rattle.tape.proofs.scan.scan.Reads as scan-reads
 
 returns : tie.Need-returns
 returns c = rw (← c .before .before .scan .ensures, c .enum-told .given .1)

@@ -11,9 +11,6 @@ use native.Mathlib.Omega.{arith}
 use denote.Ref.{now}
 use Rattle.tape.proofs.text.is_printable.Statement.{statement}
 use Rattle.tape.proofs.text.is_printable.Tie as tie
-use Rattle.tape.proofs.text.is_printable.Reads as reads
-use Rattle.tape.proofs.text.is_printable.Lts as lts
-use Rattle.grammar.proofs.codes.both.Reads as both-reads
 
 abbrev Inv-loop : tie.InvT-loop
 Inv-loop s from fine₀ i₀ fine i =

@@ -12,10 +12,6 @@ use native.Mathlib.Omega.{arith}
 use denote.Ref.{now}
 use Rattle.tape.proofs.text.nodes.Statement.{statement}
 use Rattle.tape.proofs.text.nodes.Tie as tie
-use Rattle.tape.proofs.text.nodes.Reads as reads
-use Rattle.tape.proofs.text.nodes.Lts as lts
-use Rattle.grammar.proofs.kind.is_node.Reads as is-node-reads
-use Rattle.tape.proofs.layout.code_at.Reads as code-at-reads
 
 abbrev Inv-loop : tie.InvT-loop
 Inv-loop s l from to n₀ i₀ n i =

@@ -4,17 +4,12 @@ use mathlib.Core.Path.{sym, ap, _∙_}
 use mathlib.Core.Bool.{Bool, _&&_}
 use lib.Dec.{leb, leb→le}
 use Rattle.tape.proofs.Holding.{held}
-use Rattle.tape.proofs.Tests.{and-left, and-right, from-true}
+use Rattle.format.proofs.Tests.{and-left, and-right, from-true}
 use borrow.Author.Needs.{needs}
 use native.Mathlib.Omega.{arith}
 use denote.Ref.{now}
 use Rattle.tape.proofs.text.size.Statement.{statement}
 use Rattle.tape.proofs.text.size.Tie as tie
-use Rattle.tape.proofs.text.size.Reads as reads
-use Rattle.tape.proofs.text.size.Lts as lts
-use Rattle.grammar.proofs.codes.both.Reads as both-reads
-use Rattle.tape.proofs.layout.holds.Reads as holds-reads
-use Rattle.tape.proofs.text.nodes.Reads as nodes-reads
 
 nodes-requires : tie.Need-nodes-requires
 nodes-requires c κs =

@@ -1,0 +1,2 @@
+-- What the contracts of the crate cite: the body check's definitions of names said of a place on a tape. Only proofs see them.
+pub mod Names

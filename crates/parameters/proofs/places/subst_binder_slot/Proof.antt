@@ -1,0 +1,32 @@
+-- `parameters::places::subst_binder_slot` meets its contract.
+-- Assumes nothing.
+use Rattle.parameters.specs.Parameters.{binderSlotIn}
+use borrow.Author.Needs.{needs}
+use Rattle.parameters.proofs.places.subst_binder_slot.Statement.{statement}
+use Rattle.parameters.proofs.places.subst_binder_slot.Tie as tie
+
+pub subst-binder-slot-spec : {M : Type 1} → statement M
+unfolding binderSlotIn
+subst-binder-slot-spec =
+    tie.close
+    (tie.spec
+    (λ c. search needs)
+    (λ c. search needs)
+    (λ c. rw (c .enum-told .given .1))
+    (λ c κs. search needs)
+    (λ c. search needs)
+    (λ c. search needs)
+    (λ c κs. search needs)
+    (λ c. rw (c .before .before .before .before .before .w .given .1, ← c .before .before .before .read-slot .ensures, c .before .enum-told2 .given .1, ← c .silent .ensures))
+    (λ c. search needs)
+    (λ c κs. search needs)
+    (λ c. search needs)
+    (λ c κs. search needs)
+    (λ c. search needs)
+    (λ c κs. search needs)
+    (λ c. search needs)
+    (λ c. rw (c .before .before .before .before .before .before .before .before .before .before .before .w .given .1, ← c .before .before .before .before .before .before .before .before .before .read-slot .ensures, c .before .before .before .before .before .before .before .node .given .1, c .before .before .before .before .enum-told3 .given .1) (c .before .before .keep .ensures))
+    (λ c. search needs)
+    (λ c. rw (c .before .before .before .before .before .before .before .before .before .before .before .before .w .given .1, ← c .before .before .before .before .before .before .before .before .before .before .read-slot .ensures, c .before .before .before .before .before .before .before .before .node .given .1, c .before .before .before .before .before .node2 .given .1) (c .before .before .param-slot .ensures))
+    (λ c. search needs)
+    (λ c. rw (c .before .before .before .before .before .before .before .before .before .before .before .before .w .given .1, ← c .before .before .before .before .before .before .before .before .before .before .read-slot .ensures, c .before .before .before .before .before .before .before .before .node .given .1, c .before .before .before .before .before .node3 .given .1) (c .before .before .gensym-for .ensures)))
