@@ -5,6 +5,10 @@
  * else one of the refusals below. The span is 0..0 where a refusal has none. A message is ASCII but for the ellipsis, which is
  * E2 80 A6, and has no zero at its end.
  *
+ * Stack: the walks recurse as deep as tapes nest. Measured at the deepest inputs on x86-64 (`bench stack`): neukolja_check 70,847
+ * bytes, neukolja_registry 14,199, neukolja_substitute 121,135, neukolja_expand 273,823. A linker script or a thread must provide
+ * it, with what the caller itself needs and some room on top: nothing checks it while a function runs.
+ *
  * A function keeps nothing between calls, so several threads may call it at once, each with buffers of its own. What a call
  * writes to must not overlap anything else that it is given. No pointer may be null, not even with the length 0.
  */

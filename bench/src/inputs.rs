@@ -12,57 +12,57 @@ pub fn all() -> Vec<(&'static str, Case)> {
     ]
 }
 
-fn text(t: &str) -> Node {
+pub fn text(t: &str) -> Node {
     Node::with_text(40, t.as_bytes())
 }
 
-fn list(width: usize, items: Vec<Node>) -> Node {
+pub fn list(width: usize, items: Vec<Node>) -> Node {
     Node::counted(41, width, items)
 }
 
-fn string(t: &str) -> Node {
+pub fn string(t: &str) -> Node {
     Node::with_text(23, t.as_bytes())
 }
 
-fn parameter(name: &str) -> Node {
+pub fn parameter(name: &str) -> Node {
     Node::with_text(32, name.as_bytes())
 }
 
-fn both(left: Node, right: Node) -> Node {
+pub fn both(left: Node, right: Node) -> Node {
     Node::new(1, 0, vec![left, right])
 }
 
 /// `Home::action::kind{…}`
-fn predicate(action: &str, kind: &str, fields: Vec<(&str, Node)>) -> Node {
+pub fn predicate(action: &str, kind: &str, fields: Vec<(&str, Node)>) -> Node {
     let fields = fields.into_iter().flat_map(|(name, term)| [text(name), term]).collect();
     let place = Node::new(42, span(1, 2), vec![]);
     Node::new(7, span(1, 2), vec![place, list(1, vec![text("Home")]), text(action), text(kind), list(2, fields)])
 }
 
 /// A condition macro, or with the body of a term a value macro.
-fn definition(name: &str, parameters: &[&str], body: Node) -> Node {
+pub fn definition(name: &str, parameters: &[&str], body: Node) -> Node {
     let parameters = parameters.iter().flat_map(|p| [Node::new(42, 0, vec![]), text(p)]).collect();
     let kind = if body.code < 20 { 62 } else { 63 };
     Node::new(60, span(3, 4), vec![text(name), list(2, parameters), Node::new(kind, 0, vec![body])])
 }
 
-fn call(name: &str, start: u32, arguments: Vec<Node>) -> Node {
+pub fn call(name: &str, start: u32, arguments: Vec<Node>) -> Node {
     Node::new(54, span(start, start + 9), vec![text(name), list(1, arguments)])
 }
 
-fn condition_call(name: &str, start: u32, arguments: Vec<Node>) -> Node {
+pub fn condition_call(name: &str, start: u32, arguments: Vec<Node>) -> Node {
     Node::new(11, span(start, start + 9), vec![call(name, start, arguments)])
 }
 
-fn term(t: Node) -> Node {
+pub fn term(t: Node) -> Node {
     Node::new(56, 0, vec![t])
 }
 
-fn condition(c: Node) -> Node {
+pub fn condition(c: Node) -> Node {
     Node::new(55, 0, vec![c])
 }
 
-fn hours(n: u64) -> Node {
+pub fn hours(n: u64) -> Node {
     Node::new(57, 0, vec![Node::new(50, n, vec![])])
 }
 
@@ -114,7 +114,7 @@ fn landlord() -> Case {
         condition_call("seen_in_attic", 80, vec![person(), hours(2)]),
     ];
     let rule = calls.into_iter().reduce(both).expect("five conjuncts");
-    Case::on_two_tapes(Operation::Expand, u32::MAX, encode(&list(1, library())), encode(&rule))
+    Case::new(Operation::Expand, u32::MAX, vec![encode(&list(1, library())), encode(&rule)])
 }
 
 /// 26 calls with long arguments below 30 negations: condition and result both have nearly 1,024 entries.
@@ -127,5 +127,5 @@ fn near_the_limits() -> Case {
         .reduce(both)
         .expect("26 conjuncts");
     let nested = (0..30).fold(rule, |c, _| Node::new(3, 0, vec![c]));
-    Case::on_two_tapes(Operation::Expand, u32::MAX, encode(&list(1, library())), encode(&nested))
+    Case::new(Operation::Expand, u32::MAX, vec![encode(&list(1, library())), encode(&nested)])
 }

@@ -56,8 +56,9 @@ mod functions {
 
         #[rustfmt::skip]
         fn run(&mut self, case: &Case, lent: Lent) {
+            let (a, limit) = (&case.tapes[0], case.limit);
             #[allow(unused_variables)]
-            let ((a, b), limit) = ((&case.first, &case.second), case.limit);
+            let b = case.tapes.get(1).map_or(&[][..], Vec::as_slice);
             #[allow(unused_variables)]
             let Lent { result: r, work: w, message: m, answer } = lent;
             // SAFETY: every pointer comes with its length from a slice that outlives the call, and no two overlap.

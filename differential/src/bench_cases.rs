@@ -98,7 +98,7 @@ pub fn cases() -> Vec<Case> {
     let registry = encode(&definitions());
     inputs
         .into_iter()
-        .map(|(limit, condition)| Case::on_two_tapes(Operation::Expand, limit, registry.clone(), encode(&condition)))
+        .map(|(limit, condition)| Case::new(Operation::Expand, limit, vec![registry.clone(), encode(&condition)]))
         .collect()
 }
 
@@ -108,8 +108,8 @@ pub fn orders() -> Vec<Case> {
     let body = encode(&definition("o", &[], since()));
     let o = Node::new(54, span(7, 9), vec![text("o"), list(1, vec![])]);
     vec![
-        Case::on_one_tape(Operation::Check, body.clone()),
-        Case::on_two_tapes(Operation::Substitute, 100, body, encode(&o)),
-        Case::on_two_tapes(Operation::Expand, 100, encode(&list(1, vec![])), encode(&since())),
+        Case::new(Operation::Check, 0, vec![body.clone()]),
+        Case::new(Operation::Substitute, 100, vec![body, encode(&o)]),
+        Case::new(Operation::Expand, 100, vec![encode(&list(1, vec![])), encode(&since())]),
     ]
 }

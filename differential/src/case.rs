@@ -1,4 +1,6 @@
-//! An input of one of the four operations, and an answer.
+//! An input of one of the operations, and an answer.
+
+use crate::tape::Sort;
 
 #[derive(Clone, Copy, Debug, PartialEq, Eq, PartialOrd, Ord)]
 pub enum Operation {
@@ -21,44 +23,63 @@ impl Operation {
         }
     }
 
-    /// Whether the operation has a second tape, a limit, a result and a work buffer.
-    pub fn makes_a_tree(self) -> bool {
+    /// The operation's number in a list of vectors.
+    pub fn number(self) -> u8 {
+        match self {
+            Operation::Check => 1,
+            Operation::Registry => 2,
+            Operation::Substitute => 3,
+            Operation::Expand => 4,
+        }
+    }
+
+    /// The roots of its tapes, in the order in which they are given.
+    pub fn roots(self) -> &'static [Sort] {
+        match self {
+            Operation::Check => &[Sort::Definition],
+            Operation::Registry => &[Sort::Definitions],
+            Operation::Substitute => &[Sort::Definition, Sort::Call],
+            Operation::Expand => &[Sort::Definitions, Sort::Condition],
+        }
+    }
+
+    /// The least sizes of its result, work and message buffers; 0 for one that it has not.
+    pub fn buffers(self) -> [usize; 3] {
+        match self {
+            Operation::Check | Operation::Registry => [0, 0, LEAST_MESSAGE],
+            Operation::Substitute | Operation::Expand => [LEAST_RESULT, LEAST_WORK, LEAST_MESSAGE],
+        }
+    }
+
+    /// Whether the operation walks a body, with a limit for what is charged.
+    pub fn charges(self) -> bool {
         matches!(self, Operation::Substitute | Operation::Expand)
     }
 }
 
-/// The least sizes of the three buffers.
-pub const LEAST_RESULT: usize = 12_296;
-pub const LEAST_WORK: usize = 65_536;
-pub const LEAST_MESSAGE: usize = 2_048;
+const LEAST_RESULT: usize = 12_296;
+const LEAST_WORK: usize = 65_536;
+const LEAST_MESSAGE: usize = 2_048;
 
 #[derive(Clone, Debug, PartialEq, Eq)]
 pub struct Case {
     pub operation: Operation,
-    /// 0 for check and registry.
+    /// 0 where nothing is charged.
     pub limit: u32,
-    /// The definition, or the registry.
-    pub first: Vec<u8>,
-    /// The call, or the condition; empty for check and registry.
-    pub second: Vec<u8>,
-    /// Sizes of the buffers; result and work are 0 for check and registry.
-    pub result: usize,
-    pub work: usize,
-    pub message: usize,
+    pub tapes: Vec<Vec<u8>>,
+    /// Sizes of the result, work and message buffers; 0 for one that the operation has not.
+    pub sizes: [usize; 3],
 }
 
 impl Case {
-    pub fn on_one_tape(operation: Operation, first: Vec<u8>) -> Case {
-        Case { operation, limit: 0, first, second: Vec::new(), result: 0, work: 0, message: LEAST_MESSAGE }
-    }
-
-    pub fn on_two_tapes(operation: Operation, limit: u32, first: Vec<u8>, second: Vec<u8>) -> Case {
-        Case { operation, limit, first, second, result: LEAST_RESULT, work: LEAST_WORK, message: LEAST_MESSAGE }
+    /// With buffers of the least sizes.
+    pub fn new(operation: Operation, limit: u32, tapes: Vec<Vec<u8>>) -> Case {
+        Case { operation, limit, tapes, sizes: operation.buffers() }
     }
 
     /// The bytes that this case takes in a list of vectors, its answer aside.
     pub fn bytes(&self) -> usize {
-        self.first.len() + self.second.len()
+        self.tapes.iter().map(Vec::len).sum()
     }
 }
 

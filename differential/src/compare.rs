@@ -37,19 +37,18 @@ pub fn expected(case: &Case) -> Result<(Answer, Notes, Witness), String> {
 }
 
 fn hear_upstream(case: &Case, answer: &Answer, notes: &Notes) -> Result<Witness, String> {
-    let Some((first, second)) = &notes.trees else {
+    if notes.trees.is_empty() {
         return Ok(Witness::ModelAlone);
-    };
-    same("the first tape read and written", &tape::encode(first), &case.first)?;
-    if let Some(second) = second {
-        same("the second tape read and written", &tape::encode(second), &case.second)?;
     }
-    let run = |reach: Reach| match (case.operation, second) {
-        (Operation::Check, _) => upstream::check(first),
-        (Operation::Registry, _) => upstream::registry(first),
-        (Operation::Substitute, Some(call)) => upstream::substitute(first, call, reach),
-        (Operation::Expand, Some(condition)) => upstream::expand(first, condition, reach),
-        _ => unreachable!("two tapes were read"),
+    for (tree, bytes) in notes.trees.iter().zip(&case.tapes) {
+        same("a tape read and written", &tape::encode(tree), bytes)?;
+    }
+    let run = |reach: Reach| match (case.operation, &notes.trees[..]) {
+        (Operation::Check, [definition]) => upstream::check(definition),
+        (Operation::Registry, [definitions]) => upstream::registry(definitions),
+        (Operation::Substitute, [definition, call]) => upstream::substitute(definition, call, reach),
+        (Operation::Expand, [definitions, condition]) => upstream::expand(definitions, condition, reach),
+        _ => unreachable!("all tapes were read"),
     };
     let whole = Reach::limit(case.limit as usize);
     match &notes.too_large {
@@ -178,8 +177,7 @@ impl Framed {
 
 /// Runs a machine on a case and compares the five numbers and every byte of the three buffers.
 pub fn judge(machine: &mut dyn Machine, case: &Case, answer: &Answer) -> Result<(), String> {
-    let (mut result, mut work, mut message) =
-        (Framed::new(case.result), Framed::new(case.work), Framed::new(case.message));
+    let [mut result, mut work, mut message] = case.sizes.map(Framed::new);
     let mut numbers = [u64::MAX; 5];
     machine
         .run(case, Lent { result: result.inner(), work: work.inner(), message: message.inner(), answer: &mut numbers });

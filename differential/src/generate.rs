@@ -1,7 +1,7 @@
 //! Cases from a seed.
 
 use crate::brim::{self, FIGURES, Figure};
-use crate::case::{Case, LEAST_MESSAGE, LEAST_RESULT, LEAST_WORK, OPERATIONS, Operation};
+use crate::case::{Case, OPERATIONS, Operation};
 use crate::damage::damage;
 use crate::model::{self, Walk};
 use crate::random::Random;
@@ -363,10 +363,9 @@ fn unused_argument(condition: &mut Node, is_value: bool) -> &mut Node {
 // ------------------------------------------------------------------ from trees to a case
 
 fn on_tapes(random: &mut Random, operation: Operation, input: &Input) -> Case {
-    let first = tape::encode(&input.first);
-    let Some(second) = &input.second else { return Case::on_one_tape(operation, first) };
-    let mut case = Case::on_two_tapes(operation, u32::MAX, first, tape::encode(second));
-    if random.chance(55) {
+    let tapes = [Some(&input.first), input.second.as_ref()].into_iter().flatten().map(tape::encode).collect();
+    let mut case = Case::new(operation, if operation.charges() { u32::MAX } else { 0 }, tapes);
+    if operation.charges() && random.chance(55) {
         case.limit = limit(random, model::answer(&case).0.charged as usize) as u32;
     }
     case
@@ -385,35 +384,32 @@ fn limit(random: &mut Random, charged: usize) -> usize {
 
 /// A damaged tape, or another than is wanted.
 fn spoil(random: &mut Random, case: &mut Case) {
-    let other = random.chance(50) && case.operation.makes_a_tree();
+    let one = if random.chance(50) { case.tapes.len() - 1 } else { 0 };
     match random.weighted(&[85, 5, 5, 5]) {
-        0 => damage(random, if other { &mut case.second } else { &mut case.first }),
-        1 => *(if other { &mut case.second } else { &mut case.first }) = vec![0; random.below(12)],
-        2 if case.operation.makes_a_tree() => std::mem::swap(&mut case.first, &mut case.second),
-        2 => case.first = tape::encode(&Node::new(28, 0, vec![])),
+        0 => damage(random, &mut case.tapes[one]),
+        1 => case.tapes[one] = vec![0; random.below(12)],
+        2 if case.tapes.len() > 1 => case.tapes.rotate_left(1),
+        2 => case.tapes[0] = tape::encode(&Node::new(28, 0, vec![])),
         _ => {
-            damage(random, &mut case.first);
-            damage(random, &mut case.second);
+            damage(random, &mut case.tapes[0]);
+            damage(random, case.tapes.get_mut(1).unwrap_or(&mut Vec::new()));
         }
     }
 }
 
 /// Now and then longer buffers, or one that is too short.
 fn vary_buffers(random: &mut Random, case: &mut Case) {
-    let least =
-        if case.operation.makes_a_tree() { [LEAST_RESULT, LEAST_WORK, LEAST_MESSAGE] } else { [0, 0, LEAST_MESSAGE] };
-    let mut sizes = least;
+    let there: Vec<usize> = (0..3).filter(|i| case.sizes[*i] > 0).collect();
     match random.weighted(&[88, 8, 4]) {
-        0 => {}
-        1 => sizes.iter_mut().filter(|n| **n > 0).for_each(|n| *n += random.size(2000)),
-        _ => {
-            let i = if case.operation.makes_a_tree() { random.below(3) } else { 2 };
-            sizes[i] = match random.below(3) {
-                0 => least[i] - 1,
+        1 => there.iter().for_each(|i| case.sizes[*i] += random.size(2000)),
+        2 => {
+            let i = if there.len() > 1 { *random.pick(&there) } else { there[0] };
+            case.sizes[i] = match random.below(3) {
+                0 => case.sizes[i] - 1,
                 1 => 0,
-                _ => random.below(least[i]),
+                _ => random.below(case.sizes[i]),
             };
         }
+        _ => {}
     }
-    [case.result, case.work, case.message] = sizes;
 }

@@ -4,7 +4,7 @@ use differential::case::{Answer, Case, OPERATIONS, Operation};
 use differential::compare::Machine;
 use differential::tally::Tally;
 use differential::tape::{self, Node};
-use differential::{archive, compare, generate, model, places, record, upstream, vectors};
+use differential::{archive, compare, generate, model, record, upstream, vectors};
 use std::process::ExitCode;
 
 const USAGE: &str = "differential COMMAND
@@ -138,8 +138,8 @@ fn record(path: &str, seed: u64) -> Result<bool, String> {
 fn show(seed: u64, index: u64) -> bool {
     let case = generate::case(seed, index);
     println!("{}, limit {}", case.operation.name(), case.limit);
-    println!("buffers: result {}, work {}, message {}", case.result, case.work, case.message);
-    for (bytes, root) in [&case.first, &case.second].into_iter().zip(places::roots(case.operation)) {
+    println!("result, work and message buffer: {:?}", case.sizes);
+    for (bytes, root) in case.tapes.iter().zip(case.operation.roots()) {
         match tape::accept(bytes, *root) {
             Ok(tree) => print_tree(&tree, 0),
             Err(why) => println!("{why:?}: {bytes:02X?}"),

@@ -3,7 +3,7 @@
 //! It is there for what upstream does not have: acceptance, the limits, and the order among the refusals. Since a
 //! limit can end a walk anywhere, the walks are here too; wherever no limit comes, upstream has to agree with them.
 
-use crate::case::{Answer, Case, LEAST_MESSAGE, LEAST_RESULT, LEAST_WORK, Operation};
+use crate::case::{Answer, Case, Operation};
 use crate::message;
 use crate::tape::{self, LARGEST, LARGEST_CALLS, Largest, Measure, Node, Over, Sort, UNBOUNDED, Unread};
 use std::collections::BTreeSet;
@@ -41,8 +41,8 @@ pub enum TooLarge {
 /// What the model found out about a case beside its answer.
 #[derive(Clone, Debug, Default)]
 pub struct Notes {
-    /// The two trees, where the tapes were accepted.
-    pub trees: Option<(Node, Option<Node>)>,
+    /// The trees, where all tapes were accepted.
+    pub trees: Vec<Node>,
     pub result: Option<Node>,
     pub too_large: Option<TooLarge>,
     /// How many charges were made.
@@ -104,47 +104,25 @@ pub fn without_limit(case: &Case) -> u64 {
 }
 
 fn operate(case: &Case, walk: &mut Walk, notes: &mut Notes) -> Result<Option<Node>, Refusal> {
-    let tree = case.operation.makes_a_tree();
-    if case.message < LEAST_MESSAGE || tree && (case.result < LEAST_RESULT || case.work < LEAST_WORK) {
-        notes.reason = short_buffer(case);
+    let least = case.operation.buffers();
+    if let Some(short) = (0..least.len()).find(|i| case.sizes[*i] < least[*i]) {
+        notes.reason = ["result", "work", "message"][short];
         return refuse(1, 0, String::new());
     }
-    match case.operation {
-        Operation::Check => {
-            let definition = read(&case.first, Sort::Definition, notes)?;
-            notes.trees = Some((definition.clone(), None));
-            check(&definition)?;
-            Ok(None)
-        }
-        Operation::Registry => {
-            let definitions = read(&case.first, Sort::Definitions, notes)?;
-            notes.trees = Some((definitions.clone(), None));
-            registry(&definitions)?;
-            Ok(None)
-        }
-        Operation::Substitute => {
-            let definition = read(&case.first, Sort::Definition, notes)?;
-            let call = read(&case.second, Sort::Call, notes)?;
-            notes.trees = Some((definition.clone(), Some(call.clone())));
-            walk.substitute_whole(&definition, &call).map(Some)
-        }
-        Operation::Expand => {
-            let definitions = read(&case.first, Sort::Definitions, notes)?;
-            let condition = read(&case.second, Sort::Condition, notes)?;
-            notes.trees = Some((definitions.clone(), Some(condition.clone())));
-            registry(&definitions)?;
-            walk.expand_whole(&definitions, &condition).map(Some)
-        }
+    let mut trees = Vec::new();
+    for (bytes, root) in case.tapes.iter().zip(case.operation.roots()) {
+        trees.push(read(bytes, *root, notes)?);
     }
-}
-
-fn short_buffer(case: &Case) -> &'static str {
-    if case.message < LEAST_MESSAGE {
-        "message"
-    } else if case.result < LEAST_RESULT {
-        "result"
-    } else {
-        "work"
+    notes.trees = trees.clone();
+    match (case.operation, &trees[..]) {
+        (Operation::Check, [definition]) => check(definition).map(|()| None),
+        (Operation::Registry, [definitions]) => registry(definitions).map(|()| None),
+        (Operation::Substitute, [definition, call]) => walk.substitute_whole(definition, call).map(Some),
+        (Operation::Expand, [definitions, condition]) => {
+            registry(definitions)?;
+            walk.expand_whole(definitions, condition).map(Some)
+        }
+        _ => unreachable!("a case has as many tapes as its operation has roots"),
     }
 }
 

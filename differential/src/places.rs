@@ -1,22 +1,11 @@
 //! The places of the format: which codes may stand where, and which were seen there.
 
-use crate::case::Operation;
 use crate::tape::{self, Node, Sort};
 use std::collections::BTreeSet;
 
 /// A place: the entry above (0 for the root, a list's owner for its items), the part of it, the part of an item, and
 /// the code that stands there.
 pub type Place = (u8, usize, usize, u8);
-
-/// The roots of an operation's tapes.
-pub fn roots(operation: Operation) -> &'static [Sort] {
-    match operation {
-        Operation::Check => &[Sort::Definition],
-        Operation::Registry => &[Sort::Definitions],
-        Operation::Substitute => &[Sort::Definition, Sort::Call],
-        Operation::Expand => &[Sort::Definitions, Sort::Condition],
-    }
-}
 
 /// All places that a tape with one of these roots can have.
 pub fn all(roots: &[Sort]) -> BTreeSet<Place> {
@@ -43,9 +32,13 @@ fn add_all(sort: Sort, at: (u8, usize, usize), places: &mut BTreeSet<Place>) {
     }
 }
 
-/// The places of one tree.
-pub fn seen(tree: &Node, root: usize, places: &mut BTreeSet<Place>) {
-    add_seen(tree, (0, root, 0), places);
+/// The places of an operation's trees.
+pub fn seen(trees: &[Node]) -> BTreeSet<Place> {
+    let mut places = BTreeSet::new();
+    for (i, tree) in trees.iter().enumerate() {
+        add_seen(tree, (0, i, 0), &mut places);
+    }
+    places
 }
 
 fn add_seen(node: &Node, at: (u8, usize, usize), places: &mut BTreeSet<Place>) {

@@ -1,7 +1,7 @@
 //! The fixed list: cases that together show everything worth showing, as few bytes as may be.
 
 use crate::bench_cases;
-use crate::case::{Answer, Case, LEAST_MESSAGE, Operation};
+use crate::case::{Answer, Case, Operation};
 use crate::compare;
 use crate::generate;
 use crate::model::{self, Notes};
@@ -30,8 +30,7 @@ enum Shows {
     /// What each tape is by itself, beside a buffer that is too short: 0, 2 or 3.
     Tapes {
         short: bool,
-        first: u64,
-        second: u64,
+        tapes: Vec<u64>,
     },
     /// What a registry is by its names (0, 10 or 11), and its condition by itself.
     Names {
@@ -87,7 +86,7 @@ impl Candidate {
         let operation = |s: &Shows| match s {
             // The format is one for all operations.
             Shows::Place(_) => 0,
-            _ => case.operation as u8 + 1,
+            _ => case.operation.number(),
         };
         let shows = shows(&case, &answer, &notes).into_iter().map(|s| (operation(&s), s)).collect();
         Ok(Candidate { case, answer, shows })
@@ -140,19 +139,17 @@ fn shows(case: &Case, answer: &Answer, notes: &Notes) -> Vec<Shows> {
     let mut all = vec![Shows::Number(answer.number, notes.cause.0, notes.cause.1)];
     all.extend(notes.events.iter().map(|e| Shows::Event(e)));
     all.extend(of_refusals(case, answer, notes));
-    if let Some((first, second)) = &notes.trees {
-        let mut places = BTreeSet::new();
-        places::seen(first, 0, &mut places);
-        second.iter().for_each(|tree| places::seen(tree, 1, &mut places));
+    if !notes.trees.is_empty() {
+        let places = places::seen(&notes.trees);
         all.extend(places.iter().map(|(.., code)| Shows::Code { success, code: *code }));
         if success {
-            if case.operation.makes_a_tree() {
+            if case.operation.charges() {
                 all.extend(places.into_iter().map(Shows::Place));
             }
-            all.extend(second.iter().map(|tree| Shows::Calls(tape::measure(tree).calls)));
+            all.extend(notes.trees.iter().skip(1).map(|tree| Shows::Calls(tape::measure(tree).calls)));
             all.push(Shows::Charges(notes.charges.min(12)));
         }
-        for tree in [Some(first), second.as_ref()].into_iter().flatten() {
+        for tree in &notes.trees {
             all.extend(at_limits(tree));
             tree.visit(&mut |node| {
                 if node.code == 60 && tape::measure(node).nesting == LARGEST.nesting {
@@ -184,7 +181,7 @@ fn shows(case: &Case, answer: &Answer, notes: &Notes) -> Vec<Shows> {
         let declared = answer.message.iter().rev().take_while(|b| **b != b':').filter(|b| **b == b'?').count();
         all.push(Shows::Declared(declared.min(4)));
     }
-    if case.message > LEAST_MESSAGE && answer.number != 1 {
+    if case.sizes[2] > case.operation.buffers()[2] && answer.number != 1 {
         all.push(Shows::LongBuffers(answer.message.is_empty()));
     }
     all
@@ -200,18 +197,15 @@ fn of_refusals(case: &Case, answer: &Answer, notes: &Notes) -> Vec<Shows> {
         }
         all.push(Shows::Reason(number, reason));
     }
-    let read = |bytes: &[u8], root: usize| match places::roots(case.operation).get(root) {
-        Some(root) => tape::accept(bytes, *root).map_or_else(number_of, |_| 0),
-        None => 0,
-    };
-    let (first, second) = (read(&case.first, 0), read(&case.second, 1));
-    all.push(Shows::Tapes { short: number == 1, first, second });
+    let read = |(bytes, root): (&Vec<u8>, &Sort)| tape::accept(bytes, *root).map_or_else(number_of, |_| 0);
+    let tapes: Vec<u64> = case.tapes.iter().zip(case.operation.roots()).map(read).collect();
     if case.operation == Operation::Expand
-        && let Ok(definitions) = tape::accept(&case.first, Sort::Definitions)
+        && let Ok(definitions) = tape::accept(&case.tapes[0], Sort::Definitions)
     {
         let names = model::registry(&definitions).map_or_else(|refusal| refusal.number, |()| 0);
-        all.push(Shows::Names { names, condition: second });
+        all.push(Shows::Names { names, condition: tapes[1] });
     }
+    all.push(Shows::Tapes { short: number == 1, tapes });
     if notes.too_large.is_some() {
         all.push(Shows::Made { otherwise_success: model::without_limit(case) == 0 });
     } else if number > 3 && answer.charged > LARGEST.entries as u64 {

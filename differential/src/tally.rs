@@ -4,7 +4,7 @@ use crate::case::{Answer, Case, OPERATIONS, Operation};
 use crate::compare::{WITNESSES, Witness};
 use crate::model::{Notes, TooLarge};
 use crate::places::{self, Place};
-use crate::tape;
+use crate::tape::{self, Sort};
 use std::collections::{BTreeMap, BTreeSet};
 
 /// The numbers that an operation can answer.
@@ -37,14 +37,11 @@ impl Tally {
         if let Some(reason) = reason(answer, notes) {
             *self.reasons.entry((answer.number, reason)).or_default() += 1;
         }
-        if let Some((first, second)) = &notes.trees {
-            let seen = self.places.entry(case.operation).or_default();
-            places::seen(first, 0, seen);
-            second.iter().for_each(|tree| places::seen(tree, 1, seen));
-            self.count("entries on an accepted tape", tape::measure(first).entries);
-            second.iter().for_each(|tree| self.count("entries on an accepted tape", tape::measure(tree).entries));
-            if matches!(case.operation, Operation::Registry | Operation::Expand) {
-                self.count("definitions of a registry", first.children.len());
+        self.places.entry(case.operation).or_default().extend(places::seen(&notes.trees));
+        for (tree, root) in notes.trees.iter().zip(case.operation.roots()) {
+            self.count("entries on an accepted tape", tape::measure(tree).entries);
+            if *root == Sort::Definitions {
+                self.count("definitions of a registry", tree.children.len());
             }
         }
         if let Some(result) = &notes.result {
@@ -85,7 +82,7 @@ impl Tally {
         }
         println!("codes in places, on accepted tapes:");
         for op in OPERATIONS {
-            let all = places::all(places::roots(op));
+            let all = places::all(op.roots());
             let none = BTreeSet::new();
             let seen = self.places.get(&op).unwrap_or(&none);
             let unseen: Vec<_> =

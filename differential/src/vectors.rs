@@ -8,11 +8,10 @@ pub fn write(vectors: &[(Case, Answer)]) -> Vec<u8> {
     let mut out = MARK.to_vec();
     put_u32(&mut out, vectors.len());
     for (case, answer) in vectors {
-        out.push(case.operation as u8 + 1);
+        out.push(case.operation.number());
         put_u32(&mut out, case.limit as usize);
-        put_bytes(&mut out, &case.first);
-        put_bytes(&mut out, &case.second);
-        [case.result, case.work, case.message].iter().for_each(|n| put_u32(&mut out, *n));
+        (0..2).for_each(|i| put_bytes(&mut out, case.tapes.get(i).map_or(&[], Vec::as_slice)));
+        case.sizes.iter().for_each(|n| put_u32(&mut out, *n));
         answer.numbers().iter().for_each(|n| out.extend_from_slice(&n.to_le_bytes()));
         put_bytes(&mut out, without_zeros(&answer.result));
         put_bytes(&mut out, without_zeros(&answer.message));
@@ -78,17 +77,17 @@ impl<'a> Reader<'a> {
     }
 
     fn vector(&mut self) -> Result<Expected, String> {
-        let operation = usize::from(self.take(1)?[0]);
-        let operation = *OPERATIONS.get(operation.wrapping_sub(1)).ok_or(format!("no operation {operation}"))?;
-        let case = Case {
-            operation,
-            limit: self.u32()?,
-            first: self.bytes()?,
-            second: self.bytes()?,
-            result: self.u32()? as usize,
-            work: self.u32()? as usize,
-            message: self.u32()? as usize,
-        };
+        let number = self.take(1)?[0];
+        let named = OPERATIONS.into_iter().find(|o| o.number() == number);
+        let operation = named.ok_or(format!("no operation {number}"))?;
+        let limit = self.u32()?;
+        let mut tapes = vec![self.bytes()?, self.bytes()?];
+        tapes.truncate(operation.roots().len());
+        let mut sizes = [0; 3];
+        for size in &mut sizes {
+            *size = self.u32()? as usize;
+        }
+        let case = Case { operation, limit, tapes, sizes };
         let mut numbers = [0; 5];
         for n in &mut numbers {
             *n = self.u64()?;

@@ -54,7 +54,7 @@ fn the_model_itself_passes() {
 fn wrong_answers_are_noticed() {
     let changes: [(&str, Change); 9] = [
         ("refuses each call", |case, answer| {
-            if case.operation.makes_a_tree() && answer.charged > 0 {
+            if case.operation.charges() && answer.charged > 0 {
                 *answer = Answer { number: 30, ..Answer::default() };
             }
         }),
@@ -65,12 +65,12 @@ fn wrong_answers_are_noticed() {
         }),
         ("hands its input back", |case, answer| {
             if case.operation == Operation::Expand && answer.number == 0 {
-                answer.result = case.second.clone();
+                answer.result = case.tapes[1].clone();
             }
         }),
         ("invents the charge", |_, answer| answer.charged += u64::from(answer.charged > 0)),
         ("says 35 at once", |case, answer| {
-            if case.operation.makes_a_tree() && answer.number == 0 {
+            if case.operation.charges() && answer.number == 0 {
                 answer.number = 35;
             }
         }),

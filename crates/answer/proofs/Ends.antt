@@ -1,55 +1,133 @@
--- What an operation tells at its end, from what the message's writer and the zeros behind it leave in the buffer.
+-- What the zeros, the finished tape and the message leave in the buffers is the definition's answer, whichever buffers an operation has.
 -- Assumes nothing.
 use Prim.Native.Nat.{ℕ, min, _-_, _≤_}
-use mathlib.Core.Path.{_≡_, ap, _∙_}
+use native.Mathlib.Omega.{arith}
+use mathlib.Core.Path.{_≡_, refl, ap, _∙_}
 use mathlib.Core.List.{List, [], _++_}
 use mathlib.Core.Option.{none, some}
 use lib.ListN.{length, replicate, length-append, length-replicate}
 use lib.Seq.{take-all}
-use native.Mathlib.Omega.{arith}
-use Rattle.format.specs.Entry.{Text}
-use Rattle.buffer.specs.Buffer.{Message, messageIn}
+use Rattle.format.specs.Entry.{Text, encode}
+use Rattle.format.specs.Ast.{Tree}
+use Rattle.format.specs.Flat.{flatTree}
+use Rattle.definition.specs.Outcome.{Refusal, refusal, Outcome, openOutcome}
+use Rattle.definition.specs.Answers.{Answer, Buffers, padded, answer, verdict, messageAlone, openAnswers}
+use Rattle.buffer.specs.Buffer.{Message, messageIn as written}
 use Rattle.nodes.specs.Node.{spanOf}
 use Rattle.tape.specs.declared.layout.Layout.{Layout}
+use Rattle.area.specs.Area.{areaIn, finishedIn}
+use Rattle.area.proofs.Tape.{finish-fits}
 use Rattle.messages.specs.Reason.{numberOf, messageOf}
 use Rattle.messages.specs.Write.{filled}
 use Rattle.messages.specs.declared.Refused.{Refused}
-use Rattle.definition.specs.Outcome.{refusal, Outcome, openOutcome}
-use Rattle.definition.specs.Answers as definition
-use Rattle.definition.specs.Answers.{padded}
-use Rattle.answer.specs.Told.{told, answered, Refuses, Judges, messageLength, Concludes}
-use Rattle.answer.specs.declared.Verdict as code
+use Rattle.walk_state.specs.declared.writing.State.{State}
+use Rattle.walk_state.specs.declared.writing.Walk.{Walk}
+use Rattle.walk_state.specs.declared.writing.Walk.the-variants as walk
+use Rattle.answer.specs.Matches.{
+  answerWith,
+  buffers,
+  ended,
+  treeEnd,
+  AnswersRefusal,
+  VerdictMatches,
+  AnswersVerdict,
+  OutcomeMatches,
+  AnswersOutcome,
+}
+use Rattle.answer.specs.declared.Answer as code
+use Rattle.answer.specs.declared.Verdict as verdicts
 use Rattle.answer.specs.declared.Verdict.the-variants.{Passes, Refused as Refuse}
 
+-- ------------------------------------------------------------------ refusals
+
 -- a message that fits is written whole
-filled-fits : (n : ℕ) (t : Text) → length t ≤ n → filled n t ≡ messageIn (padded n t) (length t)
+filled-fits : (n : ℕ) (t : Text) → length t ≤ n → filled n t ≡ written (padded n t) (length t)
 unfolding filled padded
 filled-fits n t h =
     let e : min n (length t) ≡ length t = omega arith in
     rw (e, take-all n (t ++ replicate (n - length t) 0) (simp (length-append, length-replicate) (omega arith)))
 
 module _ {s : List ℕ} {d : Layout} {t : List ℕ} {c : Layout} where
-  pub told-refusal : (f : Refused) (charged : ℕ) {m : ℕ} {n end : ℕ} {m′ : List ℕ} → n ≡ numberOf (f .reason)
-      → messageIn m′ end ≡ filled m (messageOf s d t c (f .reason))
-      → Refuses s d t c f charged m (told (record { number = n; span = f .span; «message_length» = end; charged = charged }) [] [] m′)
-  unfolding answered definition.openAnswers openOutcome spanOf
-  told-refusal f charged {m} e w r says h =
-      let k = w ∙ ap (filled m) (says .its-message) ∙ filled-fits m (r .message) h in
-      rw (e, says .its-number, says .its-span, ap (λ (x : Message). x .end) k, ap (λ (x : Message). x .bytes) k)
+  pub refusal-answered : (f : Refused) (charged n l m : ℕ) {number end : ℕ} {z : code.Answer} {result work message none : List ℕ}
+      → number ≡ numberOf (f .reason) → written message end ≡ filled m (messageOf s d t c (f .reason))
+      → answerWith z result work none ≡ ended (buffers n l 0) (Outcome.refused (refusal number 0 []) charged)
+      → AnswersRefusal s d t c f charged (buffers n l m)
+      (answerWith (record { number = number; span = f .span; «message_length» = end; charged = charged }) result work message)
+  unfolding ended openAnswers openOutcome spanOf
+  refusal-answered f charged n l m e w zeros r matches h =
+      let k = w ∙ ap (filled m) (matches .its-message) ∙ filled-fits m (r .message) h in
+      rw (
+        ap (λ (a : Answer). a .result) zeros,
+        ap (λ (a : Answer). a .work) zeros,
+        e,
+        matches .its-number,
+        matches .its-span,
+        ap (λ (x : Message). x .end) k,
+        ap (λ (x : Message). x .bytes) k,
+      )
 
-module _ (s : List ℕ) (l : Layout) {m : ℕ} {a : definition.Answer} where
-  passes : a ≡ answered m (Outcome.refused (refusal 0 0 []) 0) → Concludes s l Passes m a
-  unfolding Judges answered definition.openAnswers openOutcome
-  passes e none j n = e
-  passes e (some r) j n = absurd j
+-- ------------------------------------------------------------------ other contents of a buffer
 
-  refuses : {f : Refused} → Refuses s l s l f 0 m a → Concludes s l (Refuse f) m a
-  unfolding Judges messageLength definition.verdict
-  refuses h none j n = absurd j
-  refuses h (some r) j n = h r j n
+-- the same answer with other contents of result and work
+abbrev holding : List ℕ → List ℕ → Answer → Answer
+holding result work a =
+    record {
+      number = a .number;
+      start = a .start;
+      end = a .end;
+      messageLength = a .messageLength;
+      charged = a .charged;
+      result = result;
+      work = work;
+      message = a .message;
+    }
 
-  pub concludes-passes : {v : code.Verdict} → v ≡ Passes → a ≡ answered m (Outcome.refused (refusal 0 0 []) 0) → Concludes s l v m a
-  concludes-passes e h = rw e (passes h)
+-- buffers that an operation has not stay empty
+pub message-alone : {r : code.Answer} {result work message : List ℕ} (m : ℕ) (o : Outcome (Unit {0}))
+    → answerWith r result work message ≡ ended (messageAlone m) o → answerWith r [] [] message ≡ ended (messageAlone m) o
+unfolding ended openAnswers
+message-alone m (Outcome.done u k) e = ap (holding [] []) e
+message-alone m (Outcome.refused r k) e = ap (holding [] []) e
 
-  pub concludes-refused : {v : code.Verdict} {f : Refused} → v ≡ Refuse f → Refuses s l s l f 0 m a → Concludes s l v m a
-  concludes-refused e h = rw e (refuses h)
+-- a result that stands in its buffer already
+result-written : {r : code.Answer} {none result work message : List ℕ} (n l m : ℕ) (tree : Tree) (k : ℕ)
+    → result ≡ padded n (encode (flatTree tree)) → answerWith r none work message ≡ ended (buffers 0 l m) (Outcome.refused (refusal 0 0 []) k)
+    → answerWith r result work message ≡ treeEnd (buffers n l m) (Outcome.done tree k)
+unfolding ended openAnswers openOutcome
+result-written {result = result} n l m tree k p e =
+    ap (λ (a : Answer). holding result (a .work) a) e ∙ rw p
+
+-- ------------------------------------------------------------------ verdicts
+
+module _ (s : List ℕ) (l : Layout) (b : Buffers) {a : Answer} {v : verdicts.Verdict} where
+  pub passes-answered : v ≡ Passes → a ≡ ended b (Outcome.refused (refusal 0 0 []) 0) → AnswersVerdict s l v b a
+  unfolding VerdictMatches ended openAnswers openOutcome
+  passes-answered p e none j n = e
+  passes-answered p e (some r) j n = absurd (rw p at j)
+
+  pub refused-answered : {f : Refused} → v ≡ Refuse f → AnswersRefusal s l s l f 0 b a → AnswersVerdict s l v b a
+  unfolding VerdictMatches verdict
+  refused-answered p h none j n = absurd (rw p at j)
+  refused-answered p h (some r) j n = h r (rw p at j) n
+
+-- ------------------------------------------------------------------ walks
+
+module _ (s : List ℕ) (d : Layout) (t : List ℕ) (c : Layout) (bytes : List ℕ) {w : Walk} where
+  pub going-answered : {r : code.Answer} {none result work message : List ℕ} (before : List ℕ) (l m : ℕ) {st : State} → w ≡ walk.Going st
+      → result ≡ finishedIn (areaIn (st .out) bytes) before
+      → answerWith r none work message ≡ ended (buffers 0 l m) (Outcome.refused (refusal 0 0 []) (st .charged))
+      → AnswersOutcome s d t c w bytes (buffers (length before) l m) (answerWith r result work message)
+  unfolding OutcomeMatches
+  going-answered before l m {st} p f e (Outcome.done tree k) h large short =
+      let g = rw p at h in
+      result-written (length before) l m tree k (f ∙ finish-fits (g .1) before (g .2) large)
+      (e ∙ ap (λ (n : ℕ). ended (buffers 0 l m) (Outcome.refused (refusal 0 0 []) n)) (g .0))
+  going-answered before l m p f e (Outcome.refused x k) h large short = absurd (rw p at h)
+
+  pub walk-refused : (b : Buffers) {a : Answer} {f : Refused} {k : ℕ} → w ≡ walk.Refused f k → AnswersRefusal s d t c f k b a
+      → AnswersOutcome s d t c w bytes b a
+  unfolding OutcomeMatches ended answer
+  walk-refused b p e (Outcome.done tree k) h large short = absurd (rw p at h)
+  walk-refused b p e (Outcome.refused x k) h large short =
+      let g = rw p at h in
+      e x (g .1) short ∙ ap (λ (j : ℕ). ended b (Outcome.refused x j)) (g .0)

@@ -18,7 +18,7 @@ use Rattle.format.proofs.Stands.{codes-append, values-append, text-append, stan
 use Rattle.buffer.specs.Buffer.{Decides, Kept}
 use Rattle.buffer.proofs.Decides.{both, cases, true-of, false-of}
 use Rattle.buffer.proofs.Kept.{kept-sets, spells-front, spells-back, spells-more}
-use Rattle.area.specs.declared.Out.{Out}
+use Rattle.area.specs.declared.Writer.{Writer}
 use Rattle.area.specs.Area.{
   Area,
   areaIn,
@@ -27,7 +27,7 @@ use Rattle.area.specs.Area.{
   valueEnd,
   textEnd,
   headed,
-  loseIn,
+  overflowIn,
   growIn,
   appendIn,
   putIn,
@@ -39,7 +39,7 @@ use Rattle.area.specs.Area.{
   appendOutIn,
   fitsArea,
   Holds,
-  OutIs,
+  Wrote,
 }
 use Rattle.area.proofs.Room.{RunRoom, fits-decides, room-decides, append-room, append-full}
 use Rattle.area.proofs.Within.{within-grown}
@@ -48,12 +48,12 @@ length-text : (es more : List Entry) → length (textOf (es ++ more)) ≡ length
 length-text es more = ap length (text-append es more) ∙ length-append (textOf es) (textOf more)
 
 -- an area to which nothing was written
-pub out-none : (base : ℕ) (bytes : List ℕ) → base + 12288 ≤ length bytes → OutIs (areaIn (emptyAt base) bytes) []
+pub out-none : (base : ℕ) (bytes : List ℕ) → base + 12288 ≤ length bytes → Wrote (areaIn (emptyAt base) bytes) []
 unfolding codesOf valuesOf textOf fitsSizes
 out-none base bytes h =
     record {
       whole = h;
-      loses = refl;
+      overflows = refl;
       holds = λ _.
           record {
             entries = refl;
@@ -68,7 +68,7 @@ out-none base bytes h =
 -- ------------------------------------------------------------------ a run for which there is room
 
 module _ (P : Area) (es more : List Entry) (h : Holds P es) (room : RunRoom (codesOf more) (valuesOf more) (textOf more) P) where
-  abbrev out : Out
+  abbrev out : Writer
   out = P .out
 
   abbrev b : ℕ
@@ -141,7 +141,7 @@ fits-back es more f =
     fits-decides (length more) (length (textOf more)) .fails f
     (omega (arith, h .0, length-append es more), omega (arith, h .1, length-text es more)))
 
-module _ {P : Area} {es : List Entry} (more : List Entry) (o : OutIs P es) where
+module _ {P : Area} {es : List Entry} (more : List Entry) (o : Wrote P es) where
   -- there is room for them if and only if all fit together
   room-fits : Decides (RunRoom (codesOf more) (valuesOf more) (textOf more) P) (fitsArea (es ++ more))
   room-fits =
@@ -157,22 +157,22 @@ module _ {P : Area} {es : List Entry} (more : List Entry) (o : OutIs P es) where
             let h = o .holds g in (
               record {
                 whole = o .whole;
-                live = o .loses ∙ rw g refl;
+                live = o .overflows ∙ rw g refl;
                 entries = omega (arith, f .0, h .entries);
                 bytes = omega (arith, f .1, h .bytes);
               },
               omega arith,
             );
         fails = λ e r.
-            let h = o .holds (not-false (fitsArea es) (sym (o .loses) ∙ r .0 .live)) in
+            let h = o .holds (not-false (fitsArea es) (sym (o .overflows) ∙ r .0 .live)) in
             fits .fails e (omega (arith, r .0 .entries, h .entries), omega (arith, r .0 .bytes, h .bytes));
       }
 
-  out-lost : fitsArea (es ++ more) ≡ false → OutIs (loseIn P) (es ++ more)
-  unfolding loseIn
-  out-lost f = record { whole = o .whole; loses = rw f refl; holds = λ e. absurd (both e f) }
+  out-overflow : fitsArea (es ++ more) ≡ false → Wrote (overflowIn P) (es ++ more)
+  unfolding overflowIn
+  out-overflow f = record { whole = o .whole; overflows = rw f refl; holds = λ e. absurd (both e f) }
 
-  pub out-append : OutIs (appendIn (codesOf more) (valuesOf more) (textOf more) P) (es ++ more)
+  pub out-append : Wrote (appendIn (codesOf more) (valuesOf more) (textOf more) P) (es ++ more)
   unfolding growIn
   out-append =
       cases (fitsArea (es ++ more))
@@ -181,25 +181,25 @@ module _ {P : Area} {es : List Entry} (more : List Entry) (o : OutIs P es) where
       rw (append-room (codesOf more) (valuesOf more) (textOf more) P room)
       (record {
         whole = rw (within-grown (codesOf more) (valuesOf more) (textOf more) P room .kept .size) (o .whole);
-        loses = rw f refl;
+        overflows = rw f refl;
         holds = λ _. grown-holds P es more (o .holds (fits-front es more f)) room;
       }))
-      (λ f. rw (append-full (codesOf more) (valuesOf more) (textOf more) P (room-fits .fails f)) (out-lost f))
+      (λ f. rw (append-full (codesOf more) (valuesOf more) (textOf more) P (room-fits .fails f)) (out-overflow f))
 
 -- one entry
-pub out-put : {P : Area} {es : List Entry} (code value : ℕ) → OutIs P es → OutIs (putIn code value P) (es ++ (entry code value ∷ []))
+pub out-put : {P : Area} {es : List Entry} (code value : ℕ) → Wrote P es → Wrote (putIn code value P) (es ++ (entry code value ∷ []))
 unfolding putIn codesOf valuesOf textOf
 out-put code value o = rw append-nil at (out-append (entry code value ∷ []) o)
 
-pub out-put-text : {P : Area} {es : List Entry} (code : ℕ) (text : Text) → OutIs P es
-    → OutIs (putTextIn code text P) (es ++ (textEntry code text ∷ []))
+pub out-put-text : {P : Area} {es : List Entry} (code : ℕ) (text : Text) → Wrote P es
+    → Wrote (putTextIn code text P) (es ++ (textEntry code text ∷ []))
 unfolding putTextIn codesOf valuesOf textOf
 out-put-text code text o = simp append-nil at (out-append (textEntry code text ∷ []) o)
 
 -- ------------------------------------------------------------------ what an area holds
 
 -- the area is whole if and only if what was written to it fits, and then its sections are those of the entries
-module _ {P : Area} {es : List Entry} (o : OutIs P es) where
+module _ {P : Area} {es : List Entry} (o : Wrote P es) where
   pub whole-fits : isWhole P ≡ fitsArea es
   whole-fits =
       cases (fitsArea es)
@@ -209,13 +209,13 @@ module _ {P : Area} {es : List Entry} (o : OutIs P es) where
       true-of (room-decides (length (P .bytes)) (P .out) 0 0)
       (record {
         whole = o .whole;
-        live = o .loses ∙ rw f refl;
+        live = o .overflows ∙ rw f refl;
         entries = omega (arith, h .entries, z .0);
         bytes = omega (arith, h .bytes, z .1);
       })
       ∙ sym f)
       (λ f.
-      false-of (room-decides (length (P .bytes)) (P .out) 0 0) (λ r. both (o .loses ∙ rw f refl) (r .live))
+      false-of (room-decides (length (P .bytes)) (P .out) 0 0) (λ r. both (o .overflows ∙ rw f refl) (r .live))
       ∙ sym f)
 
 module _ {P : Area} {es : List Entry} (h : Holds P es) where
@@ -229,11 +229,11 @@ module _ {P : Area} {es : List Entry} (h : Holds P es) where
   text-held = rw (h .bytes) (first-stands (h .stands) .2 .spelled)
 
 -- all that was written to another area
-pub out-append-out : {P Q : Area} {es more : List Entry} → OutIs Q more → OutIs P es → OutIs (appendOutIn Q P) (es ++ more)
+pub out-append-out : {P Q : Area} {es more : List Entry} → Wrote Q more → Wrote P es → Wrote (appendOutIn Q P) (es ++ more)
 unfolding appendOutIn
 out-append-out {P} {Q} {es} {more} q o =
     cases (fitsArea more)
     (λ f.
     let h = q .holds f in
     rw (whole-fits q, f, appendOutIn) (rw (codes-held h, values-held h, text-held h) (out-append more o)))
-    (λ f. rw (whole-fits q, f, appendOutIn) (out-lost more o (fits-back es more f)))
+    (λ f. rw (whole-fits q, f, appendOutIn) (out-overflow more o (fits-back es more f)))

@@ -15,7 +15,7 @@ use Rattle.definition.specs.Outcome.{spanStart}
 use Rattle.definition.specs.Substitute.{SubstMaps, gensymFor}
 use Rattle.buffer.proofs.Sets.{sets-behind, sets-out}
 use Rattle.buffer.proofs.Lent.{sets-lent-rest}
-use Rattle.area.specs.Area.{Area, areaIn, textEnd, RoomFor, grown, headed, loseIn, growIn, putTextIn, generated}
+use Rattle.area.specs.Area.{Area, areaIn, textEnd, RoomFor, grown, headed, overflowIn, growIn, putTextIn, generated}
 use Rattle.area.proofs.Room.{append-room, append-full}
 
 -- it is the name that the definition of substitution has
@@ -63,6 +63,6 @@ module _ (code : ℕ) (text : Text) (P : Area) where
   unfolding putTextIn growIn
   put-text-room room = sym (append-room (code ∷ []) (le 8 (length text)) text P (room, length-le 8 (length text)))
 
-  pub put-text-full : (RoomFor (length (P .bytes)) (P .out) 1 (length text) → ⊥) → loseIn P ≡ putTextIn code text P
+  pub put-text-full : (RoomFor (length (P .bytes)) (P .out) 1 (length text) → ⊥) → overflowIn P ≡ putTextIn code text P
   unfolding putTextIn
   put-text-full full = sym (append-full (code ∷ []) (le 8 (length text)) text P (λ h. full (h .0)))

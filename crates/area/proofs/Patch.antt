@@ -18,7 +18,7 @@ use Rattle.format.proofs.Stands.{codes-append, values-append, text-append, stan
 use Rattle.buffer.specs.Buffer.{Decides}
 use Rattle.buffer.proofs.Decides.{both, cases, true-of, false-of, decides-lt, decides-and}
 use Rattle.buffer.proofs.Kept.{kept-sets, spells-front, spells-back, spells-over}
-use Rattle.area.specs.Area.{Area, areaIn, RoomFor, isWhole, addedAt, patchIn, fitsArea, Holds, OutIs, Within, valued}
+use Rattle.area.specs.Area.{Area, areaIn, RoomFor, isWhole, addedAt, patchIn, fitsArea, Holds, Wrote, Within, valued}
 use Rattle.area.proofs.Room.{fits-decides, room-decides}
 use Rattle.area.proofs.Within.{within-refl}
 use Rattle.area.proofs.Appends.{whole-fits}
@@ -117,10 +117,10 @@ added-is {P} a e z added h small =
     let m : (e .value + added) % 2 ^ 64 ≡ e .value + added = omega arith in
     rw (there, m) refl
 
--- What is known of the index and of the sum may rest on the entries' being there: where they were lost, nothing is patched.
+-- What is known of the index and of the sum may rest on the entries' being there: where they overflowed, nothing is patched.
 pub out-patch : {P : Area} (a : List Entry) (e : Entry) (z : List Entry) (index added : ℕ)
     → (fitsArea (a ++ (e ∷ z)) ≡ true → (index ≡ length a) × (e .value + added < 2 ^ 64))
-    → OutIs P (a ++ (e ∷ z)) → OutIs (patchIn index added P) (a ++ (valued e (e .value + added) ∷ z))
+    → Wrote P (a ++ (e ∷ z)) → Wrote (patchIn index added P) (a ++ (valued e (e .value + added) ∷ z))
 out-patch {P} a e z index added known o =
     let v : ℕ = e .value + added in
     let same = same-fits a e z v in
@@ -132,9 +132,9 @@ out-patch {P} a e z index added known o =
     rw (known f .0, patch-there (length a) added P (whole, inside), added-is a e z added h (known f .1))
     (record {
       whole = rw length-sets (o .whole);
-      loses = o .loses ∙ rw same refl;
+      overflows = o .overflows ∙ rw same refl;
       holds = λ _. patched-holds a e z v f h;
     }))
     (λ f.
-    rw (patch-none index added P (λ h. both (o .loses ∙ rw f refl) (h .0 .live)))
-    (record { whole = o .whole; loses = o .loses ∙ rw same refl; holds = λ g. absurd (both g (same ∙ f)) }))
+    rw (patch-none index added P (λ h. both (o .overflows ∙ rw f refl) (h .0 .live)))
+    (record { whole = o .whole; overflows = o .overflows ∙ rw same refl; holds = λ g. absurd (both g (same ∙ f)) }))

@@ -10,21 +10,21 @@ use borrow.Author.Tests.{not-true, not-false, eqb-true, eqb-false}
 use Rattle.format.specs.Limits.{fitsSizes}
 use Rattle.buffer.specs.Buffer.{Decides}
 use Rattle.buffer.proofs.Decides.{both, decides-le, decides-and, true-of, false-of}
-use Rattle.area.specs.declared.Out.{Out}
-use Rattle.area.specs.Area.{Area, RoomFor, hasRoom, loseIn, growIn, appendIn, codesIn, valuesIn, textIn, appendOutIn}
+use Rattle.area.specs.declared.Writer.{Writer}
+use Rattle.area.specs.Area.{Area, RoomFor, hasRoom, overflowIn, growIn, appendIn, codesIn, valuesIn, textIn, appendOutIn}
 
 pub fits-decides : (n t : ℕ) → Decides ((n ≤ 1024) × (t ≤ 3072)) (fitsSizes n t)
 unfolding fitsSizes
 fits-decides n t = decides-and (decides-le n 1024) (decides-le t 3072)
 
-live-decides : (lost : Bool) → Decides (lost ≡ false) (not lost)
-live-decides lost =
-    record { holds = λ e. not-true lost e; fails = λ e h. both (not-false lost e) h }
+live-decides : (overflowed : Bool) → Decides (overflowed ≡ false) (not overflowed)
+live-decides overflowed =
+    record { holds = λ e. not-true overflowed e; fails = λ e h. both (not-false overflowed e) h }
 
-pub room-decides : (size : ℕ) (out : Out) (k u : ℕ) → Decides (RoomFor size out k u) (hasRoom size out k u)
+pub room-decides : (size : ℕ) (out : Writer) (k u : ℕ) → Decides (RoomFor size out k u) (hasRoom size out k u)
 unfolding hasRoom
 room-decides size out k u =
-    let d = decides-and (decides-and (decides-le (out .base + 12288) size) (live-decides (out .lost))) (fits-decides (out .n + k) (out .t + u)) in
+    let d = decides-and (decides-and (decides-le (out .base + 12288) size) (live-decides (out .overflowed))) (fits-decides (out .n + k) (out .t + u)) in
     record {
       holds = λ e.
           let h = d .holds e in
@@ -51,7 +51,7 @@ module _ (codes values text : List ℕ) (P : Area) where
   unfolding appendIn
   append-room h = rw (true-of run-decides h, appendIn) refl
 
-  pub append-full : (RunRoom codes values text P → ⊥) → appendIn codes values text P ≡ loseIn P
+  pub append-full : (RunRoom codes values text P → ⊥) → appendIn codes values text P ≡ overflowIn P
   unfolding appendIn
   append-full h = rw (false-of run-decides h, appendIn) refl
 
@@ -62,6 +62,6 @@ module _ (Q P : Area) where
   unfolding appendOutIn
   append-out-whole room = rw (true-of (room-decides (length (Q .bytes)) (Q .out) 0 0) room, appendOutIn) refl
 
-  pub append-out-none : (RoomFor (length (Q .bytes)) (Q .out) 0 0 → ⊥) → loseIn P ≡ appendOutIn Q P
+  pub append-out-none : (RoomFor (length (Q .bytes)) (Q .out) 0 0 → ⊥) → overflowIn P ≡ appendOutIn Q P
   unfolding appendOutIn
   append-out-none full = rw (false-of (room-decides (length (Q .bytes)) (Q .out) 0 0) full, appendOutIn) refl

@@ -15,7 +15,7 @@ use Rattle.buffer.specs.Buffer.{zeroed}
 use Rattle.buffer.proofs.Decides.{true-of, false-of}
 use Rattle.buffer.proofs.Sets.{sets-behind}
 use Rattle.buffer.proofs.Zeros.{zeroed-all, zeroed-behind}
-use Rattle.area.specs.Area.{Area, RoomFor, codesIn, valuesIn, textIn, tapeOf, finishedIn, fitsArea, OutIs}
+use Rattle.area.specs.Area.{Area, RoomFor, codesIn, valuesIn, textIn, tapeOf, finishedIn, fitsArea, Wrote}
 use Rattle.area.proofs.Room.{fits-decides, room-decides}
 use Rattle.area.proofs.Appends.{whole-fits, codes-held, values-held, text-held}
 
@@ -70,7 +70,7 @@ none-written P m h =
 
 -- ------------------------------------------------------------------ what they make
 
-module _ {P : Area} {es : List Entry} (o : OutIs P es) where
+module _ {P : Area} {es : List Entry} (o : Wrote P es) where
   tape-encodes : fitsArea es ≡ true → tapeOf P ≡ encode es
   unfolding tapeOf encode
   tape-encodes f =

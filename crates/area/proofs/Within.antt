@@ -1,4 +1,4 @@
--- What every write into an area leaves alone: the base, the slice outside the area, and a writer that has lost entries already.
+-- What every write into an area leaves alone: the base, the slice outside the area, and a writer that has overflowed already.
 -- Assumes nothing.
 use mathlib.Core.Path.{refl, _∙_}
 use mathlib.Core.List.{List, [], _∷_}
@@ -14,7 +14,7 @@ use Rattle.area.specs.Area.{
   codeEnd,
   valueEnd,
   textEnd,
-  loseIn,
+  overflowIn,
   growIn,
   appendIn,
   putIn,
@@ -36,9 +36,9 @@ within-trans p q = record { base = q .base ∙ p .base; kept = kept-trans (p .ke
 
 -- ------------------------------------------------------------------ the writes
 
-within-lost : (P : Area) → Within P (loseIn P)
-unfolding loseIn
-within-lost P = record { base = refl; kept = kept-refl }
+within-overflow : (P : Area) → Within P (overflowIn P)
+unfolding overflowIn
+within-overflow P = record { base = refl; kept = kept-refl }
 
 pub within-grown : (codes values text : List ℕ) (P : Area) → RunRoom codes values text P → Within P (growIn codes values text P)
 unfolding growIn
@@ -59,7 +59,7 @@ within-append codes values text P =
     let d = run-decides codes values text P in
     cases (runFits codes values text P)
     (λ e. rw (append-room codes values text P (d .holds e)) (within-grown codes values text P (d .holds e)))
-    (λ e. rw (append-full codes values text P (d .fails e)) (within-lost P))
+    (λ e. rw (append-full codes values text P (d .fails e)) (within-overflow P))
 
 pub within-put : (code value : ℕ) (P : Area) → Within P (putIn code value P)
 unfolding putIn
@@ -74,4 +74,4 @@ unfolding appendOutIn
 within-append-out Q P =
     cases (isWhole Q)
     (λ e. rw (e, appendOutIn) (within-append (codesIn Q) (valuesIn Q) (textIn Q) P))
-    (λ e. rw (e, appendOutIn) (within-lost P))
+    (λ e. rw (e, appendOutIn) (within-overflow P))

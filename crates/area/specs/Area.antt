@@ -14,56 +14,56 @@ use Rattle.format.specs.Tape.{fromLe}
 use Rattle.format.specs.Stands.{part, Stands}
 use Rattle.definition.specs.Text.{utf8, decimal}
 use Rattle.buffer.specs.Buffer.{zeroed, Kept}
-use Rattle.area.specs.declared.Out.{Out}
+use Rattle.area.specs.declared.Writer.{Writer}
 
 -- a writer, and the slice that its area is in
 pub record Area : Type 0 where
-  pub out : Out
+  pub out : Writer
   pub bytes : List ℕ
 
-abbrev pub areaIn : Out → List ℕ → Area
+abbrev pub areaIn : Writer → List ℕ → Area
 areaIn out bytes = record { out = out; bytes = bytes }
 
 -- where the next code, value and text go
-abbrev pub codeEnd : Out → ℕ
+abbrev pub codeEnd : Writer → ℕ
 codeEnd out = out .base + out .n
 
-abbrev pub valueEnd : Out → ℕ
+abbrev pub valueEnd : Writer → ℕ
 valueEnd out = out .base + 1024 + 8 * out .n
 
-abbrev pub textEnd : Out → ℕ
+abbrev pub textEnd : Writer → ℕ
 textEnd out = out .base + 9216 + out .t
 
 -- ------------------------------------------------------------------ appending
 
--- the area stands within `size` bytes, nothing was lost, and there is room for k more entries with u bytes of text
-pub record RoomFor (size : ℕ) (out : Out) (k u : ℕ) : Type 0 where
+-- the area stands within `size` bytes, nothing has overflowed, and there is room for k more entries with u bytes of text
+pub record RoomFor (size : ℕ) (out : Writer) (k u : ℕ) : Type 0 where
   pub whole : out .base + 12288 ≤ size
-  pub live : out .lost ≡ false
+  pub live : out .overflowed ≡ false
   pub entries : out .n + k ≤ 1024
   pub bytes : out .t + u ≤ 3072
 
-unfoldable pub hasRoom : ℕ → Out → ℕ → ℕ → Bool
-hasRoom size out k u = (leb (out .base + 12288) size && not (out .lost)) && fitsSizes (out .n + k) (out .t + u)
+unfoldable pub hasRoom : ℕ → Writer → ℕ → ℕ → Bool
+hasRoom size out k u = (leb (out .base + 12288) size && not (out .overflowed)) && fitsSizes (out .n + k) (out .t + u)
 
 -- the writer of an area with nothing in it
-abbrev pub emptyAt : ℕ → Out
-emptyAt base = record { base = base; n = 0; t = 0; lost = false }
+abbrev pub emptyAt : ℕ → Writer
+emptyAt base = record { base = base; n = 0; t = 0; overflowed = false }
 
 -- the writer whose entries were too many
-abbrev pub overfull : Out → Out
-overfull out = record { base = out .base; n = out .n; t = out .t; lost = true }
+abbrev pub overflowOf : Writer → Writer
+overflowOf out = record { base = out .base; n = out .n; t = out .t; overflowed = true }
 
 -- the writer with k entries more, and u bytes of text
-abbrev pub grown : Out → ℕ → ℕ → Out
-grown out k u = record { base = out .base; n = out .n + k; t = out .t + u; lost = false }
+abbrev pub grown : Writer → ℕ → ℕ → Writer
+grown out k u = record { base = out .base; n = out .n + k; t = out .t + u; overflowed = false }
 
 -- the codes and values of entries whose text stands there already
-abbrev pub headed : List ℕ → Out → List ℕ → List ℕ → List ℕ
+abbrev pub headed : List ℕ → Writer → List ℕ → List ℕ → List ℕ
 headed s out codes values = sets (sets s (codeEnd out) codes) (valueEnd out) values
 
-unfoldable pub loseIn : Area → Area
-loseIn P = areaIn (overfull (P .out)) (P .bytes)
+unfoldable pub overflowIn : Area → Area
+overflowIn P = areaIn (overflowOf (P .out)) (P .bytes)
 
 -- a run of entries for which there is room
 unfoldable pub growIn : List ℕ → List ℕ → List ℕ → Area → Area
@@ -77,7 +77,7 @@ unfoldable pub appendIn : List ℕ → List ℕ → List ℕ → Area → Area
 appendIn codes values text P =
     elim (hasRoom (length (P .bytes)) (P .out) (length codes) (length text) && eqb (length values) (8 * length codes)) [
       | true ↦ growIn codes values text P
-      | false ↦ loseIn P
+      | false ↦ overflowIn P
     ]
 
 -- an entry without text, and one whose value is its text's length
@@ -93,7 +93,7 @@ generated name start = name ++ (utf8 "$" ++ decimal start)
 
 -- ------------------------------------------------------------------ what an area holds
 
--- nothing was lost, and all that was written stands within the slice
+-- nothing has overflowed, and all that was written stands within the slice
 abbrev pub isWhole : Area → Bool
 isWhole P = hasRoom (length (P .bytes)) (P .out) 0 0
 
@@ -108,7 +108,7 @@ textIn P = part (P .bytes) (P .out .base + 9216) (P .out .t)
 
 -- all that another area holds, one of another slice
 unfoldable pub appendOutIn : Area → Area → Area
-appendOutIn Q P = elim (isWhole Q) [ true ↦ appendIn (codesIn Q) (valuesIn Q) (textIn Q) P | false ↦ loseIn P ]
+appendOutIn Q P = elim (isWhole Q) [ true ↦ appendIn (codesIn Q) (valuesIn Q) (textIn Q) P | false ↦ overflowIn P ]
 
 -- the value whose bytes stand at a place, with a number added
 abbrev pub addedAt : ℕ → ℕ → List ℕ → List ℕ
@@ -122,7 +122,7 @@ patchIn index added P =
       | false ↦ P
     ]
 
--- the tape of what an area holds; no bytes where something was lost
+-- the tape of what an area holds; no bytes where it has overflowed
 unfoldable pub tapeOf : Area → List ℕ
 tapeOf P =
     elim (isWhole P) [
@@ -145,10 +145,10 @@ pub record Holds (P : Area) (es : List Entry) : Type 0 where
   pub bytes : P .out .t ≡ length (textOf es)
   pub stands : Stands (P .bytes) (P .out .base) (P .out .base + 1024) (P .out .base + 9216) 0 0 es
 
--- es was written: its area, which the slice has, holds it, or it is lost since it does not fit
-pub record OutIs (P : Area) (es : List Entry) : Type 0 where
+-- es was written: its area, which the slice has, holds it, or it has overflowed, since it does not fit
+pub record Wrote (P : Area) (es : List Entry) : Type 0 where
   pub whole : P .out .base + 12288 ≤ length (P .bytes)
-  pub loses : P .out .lost ≡ not (fitsArea es)
+  pub overflows : P .out .overflowed ≡ not (fitsArea es)
   pub holds : fitsArea es ≡ true → Holds P es
 
 -- from P to Q the slice changed within P's area alone

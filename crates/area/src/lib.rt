@@ -11,37 +11,37 @@ ghost use lib.Seq.{sets};
 ghost use Rattle.format.specs.Entry.{le};
 ghost use Rattle.format.specs.Stands.{part};
 ghost use Rattle.buffer.specs.Buffer.{Decides};
-ghost use Rattle.area.specs.Area.{areaIn, emptyAt, overfull, grown, headed, RoomFor, appendIn, putIn, putTextIn, generated, appendOutIn, patchIn, finishedIn};
+ghost use Rattle.area.specs.Area.{areaIn, emptyAt, overflowOf, grown, headed, RoomFor, appendIn, putIn, putTextIn, generated, appendOutIn, patchIn, finishedIn};
 
 // A writer's state: its area's base, how many entries and text bytes stand there, and whether they were too many.
-pub struct Out {
+pub struct Writer {
     pub base: usize,
     pub n: usize,
     pub t: usize,
-    pub lost: bool,
+    pub overflowed: bool,
 }
 
 // The writer of an area with nothing in it.
-pub fn empty(base: usize) -> Out
+pub fn empty(base: usize) -> Writer
     ensures { λ r. ⌜ r ≡ emptyAt base ⌝ }
 {
-    Out {
+    Writer {
         base,
         n: 0,
         t: 0,
-        lost: false,
+        overflowed: false,
     }
 }
 
 // The writer whose entries were too many.
-fn lose(out: Out) -> Out
-    ensures { λ r. ⌜ r ≡ overfull out ⌝ }
+fn overflow(out: Writer) -> Writer
+    ensures { λ r. ⌜ r ≡ overflowOf out ⌝ }
 {
-    Out {
+    Writer {
         base: out.base,
         n: out.n,
         t: out.t,
-        lost: true,
+        overflowed: true,
     }
 }
 
@@ -56,13 +56,13 @@ fn has_area(size: usize, base: usize) -> bool
 }
 
 // Whether the area stands within `size` bytes, and has room for `entries` more entries with `bytes` bytes of text.
-fn has_room(size: usize, out: Out, entries: usize, bytes: usize) -> bool
+fn has_room(size: usize, out: Writer, entries: usize, bytes: usize) -> bool
     ensures { λ r. ⌜ Decides (RoomFor size out entries bytes) r ⌝ }
 {
     let base = out.base;
     let n = out.n;
     let t = out.t;
-    if out.lost {
+    if out.overflowed {
         return false;
     }
     if !has_area(size, base) {
@@ -84,7 +84,7 @@ fn has_room(size: usize, out: Out, entries: usize, bytes: usize) -> bool
 }
 
 // Writes the codes and values of entries whose text, of `bytes` bytes, stands there already.
-fn write_heads(s: &mut [u8], out: Out, codes: &[u8], values: &[u8], bytes: usize) -> Out
+fn write_heads(s: &mut [u8], out: Writer, codes: &[u8], values: &[u8], bytes: usize) -> Writer
     requires { ⌜ RoomFor (length (now s)) out (length (now codes)) bytes ⌝ }
     ensures { λ r. ⌜ areaIn r (now (s .exit)) ≡ areaIn (grown out (length (now (codes .entry))) bytes) (headed (now (s .entry)) out (now (codes .entry)) (now (values .entry))) ⌝ }
 {
@@ -92,16 +92,16 @@ fn write_heads(s: &mut [u8], out: Out, codes: &[u8], values: &[u8], bytes: usize
     let n = out.n;
     buffer::write(s, base + n, codes);
     buffer::write(s, base + 1024 + 8 * n, values);
-    Out {
+    Writer {
         base,
         n: n + codes.len(),
         t: out.t + bytes,
-        lost: false,
+        overflowed: false,
     }
 }
 
 // Writes a run for which there is room.
-fn write_run(s: &mut [u8], out: Out, codes: &[u8], values: &[u8], text: &[u8]) -> Out
+fn write_run(s: &mut [u8], out: Writer, codes: &[u8], values: &[u8], text: &[u8]) -> Writer
     requires { ⌜ RoomFor (length (now s)) out (length (now codes)) (length (now text)) × (length (now values) ≡ 8 * length (now codes)) ⌝ }
     ensures { λ r. ⌜ areaIn r (now (s .exit)) ≡ appendIn (now (codes .entry)) (now (values .entry)) (now (text .entry)) (areaIn out (now (s .entry))) ⌝ }
 {
@@ -110,7 +110,7 @@ fn write_run(s: &mut [u8], out: Out, codes: &[u8], values: &[u8], text: &[u8]) -
 }
 
 // Whether there is room for a run whose parts have these lengths, and it has 8 bytes for each value.
-fn has_run_room(size: usize, out: Out, codes: usize, values: usize, text: usize) -> bool
+fn has_run_room(size: usize, out: Writer, codes: usize, values: usize, text: usize) -> bool
     ensures { λ r. ⌜ Decides (RoomFor size out codes text × (values ≡ 8 * codes)) r ⌝ }
 {
     if values / 8 != codes {
@@ -123,25 +123,25 @@ fn has_run_room(size: usize, out: Out, codes: usize, values: usize, text: usize)
 }
 
 // Appends a run of entries, given as the three parts of a tape that spell it.
-pub fn append_run(s: &mut [u8], out: Out, codes: &[u8], values: &[u8], text: &[u8]) -> Out
+pub fn append_run(s: &mut [u8], out: Writer, codes: &[u8], values: &[u8], text: &[u8]) -> Writer
     ensures { λ r. ⌜ areaIn r (now (s .exit)) ≡ appendIn (now (codes .entry)) (now (values .entry)) (now (text .entry)) (areaIn out (now (s .entry))) ⌝ }
 {
     if has_run_room(s.len(), out, codes.len(), values.len(), text.len()) {
         write_run(s, out, codes, values, text)
     } else {
-        lose(out)
+        overflow(out)
     }
 }
 
 // Appends an entry without text.
-pub fn put(s: &mut [u8], out: Out, code: u8, value: u64) -> Out
+pub fn put(s: &mut [u8], out: Writer, code: u8, value: u64) -> Writer
     ensures { λ r. ⌜ areaIn r (now (s .exit)) ≡ putIn code value (areaIn out (now (s .entry))) ⌝ }
 {
     append_run(s, out, &[code], &buffer::value_bytes(value), b"")
 }
 
 // Appends an entry with text; its value is the text's length.
-pub fn put_text(s: &mut [u8], out: Out, code: u8, text: &[u8]) -> Out
+pub fn put_text(s: &mut [u8], out: Writer, code: u8, text: &[u8]) -> Writer
     ensures { λ r. ⌜ areaIn r (now (s .exit)) ≡ putTextIn code (now (text .entry)) (areaIn out (now (s .entry))) ⌝ }
 {
     append_run(
@@ -168,7 +168,7 @@ fn write_generated(text: &mut [u8], name: &[u8], start: u32)
 }
 
 // Appends an entry with a generated name of `bytes` bytes, for which there is room.
-fn generate(s: &mut [u8], out: Out, code: u8, name: &[u8], start: u32, bytes: usize) -> Out
+fn generate(s: &mut [u8], out: Writer, code: u8, name: &[u8], start: u32, bytes: usize) -> Writer
     requires { ⌜ RoomFor (length (now s)) out 1 bytes × (bytes ≡ length (generated (now name) start)) ⌝ }
     ensures { λ r. ⌜ areaIn r (now (s .exit)) ≡ putTextIn code (generated (now (name .entry)) start) (areaIn out (now (s .entry))) ⌝ }
 {
@@ -179,19 +179,19 @@ fn generate(s: &mut [u8], out: Out, code: u8, name: &[u8], start: u32, bytes: us
 }
 
 // Appends an entry whose text is `name`, `$` and `start` in decimal.
-pub fn put_generated(s: &mut [u8], out: Out, code: u8, name: &[u8], start: u32) -> Out
+pub fn put_generated(s: &mut [u8], out: Writer, code: u8, name: &[u8], start: u32) -> Writer
     ensures { λ r. ⌜ areaIn r (now (s .exit)) ≡ putTextIn code (generated (now (name .entry)) start) (areaIn out (now (s .entry))) ⌝ }
 {
     let bytes = name.len() + 1 + buffer::digit_count(start);
     if has_room(s.len(), out, 1, bytes) {
         generate(s, out, code, name, start, bytes)
     } else {
-        lose(out)
+        overflow(out)
     }
 }
 
 // Appends all that an area holds, one of another slice.
-fn append_whole(s: &mut [u8], out: Out, from: &[u8], other: Out) -> Out
+fn append_whole(s: &mut [u8], out: Writer, from: &[u8], other: Writer) -> Writer
     requires { ⌜ RoomFor (length (now from)) other 0 0 ⌝ }
     ensures { λ r. ⌜ areaIn r (now (s .exit)) ≡ appendOutIn (areaIn other (now (from .entry))) (areaIn out (now (s .entry))) ⌝ }
 {
@@ -208,18 +208,18 @@ fn append_whole(s: &mut [u8], out: Out, from: &[u8], other: Out) -> Out
 }
 
 // Appends all that was written to another area, one of another slice.
-pub fn append_out(s: &mut [u8], out: Out, from: &[u8], other: Out) -> Out
+pub fn append_out(s: &mut [u8], out: Writer, from: &[u8], other: Writer) -> Writer
     ensures { λ r. ⌜ areaIn r (now (s .exit)) ≡ appendOutIn (areaIn other (now (from .entry))) (areaIn out (now (s .entry))) ⌝ }
 {
     if has_room(from.len(), other, 0, 0) {
         append_whole(s, out, from, other)
     } else {
-        lose(out)
+        overflow(out)
     }
 }
 
 // Adds to the value of an entry that the area holds.
-fn add_value(s: &mut [u8], out: Out, index: usize, added: u64)
+fn add_value(s: &mut [u8], out: Writer, index: usize, added: u64)
     requires { ⌜ RoomFor (length (now s)) out 0 0 × (index < out .n) ⌝ }
     ensures { λ _. ⌜ areaIn out (now (s .exit)) ≡ patchIn index added (areaIn out (now (s .entry))) ⌝ }
 {
@@ -229,7 +229,7 @@ fn add_value(s: &mut [u8], out: Out, index: usize, added: u64)
 }
 
 // Adds to the value of the entry at `index`: a list's count, when items are put behind it.
-pub fn patch_count(s: &mut [u8], out: Out, index: usize, added: u64)
+pub fn patch_count(s: &mut [u8], out: Writer, index: usize, added: u64)
     ensures { λ _. ⌜ areaIn out (now (s .exit)) ≡ patchIn index added (areaIn out (now (s .entry))) ⌝ }
 {
     if index < out.n {
@@ -256,7 +256,7 @@ fn write_section(result: &mut [u8], at: usize, s: &[u8], from: usize, count: usi
 }
 
 // Writes the tape of what an area holds, and zeros behind it.
-fn write_tape(s: &[u8], out: Out, result: &mut [u8])
+fn write_tape(s: &[u8], out: Writer, result: &mut [u8])
     requires { ⌜ RoomFor (length (now s)) out 0 0 ⌝ }
     ensures { λ _. ⌜ now (result .exit) ≡ finishedIn (areaIn out (now (s .entry))) (now (result .entry)) ⌝ }
 {
@@ -271,7 +271,7 @@ fn write_tape(s: &[u8], out: Out, result: &mut [u8])
 }
 
 // Writes the tape of the entries, and zeros behind it; zeros alone where they were too many.
-pub fn finish(s: &[u8], out: Out, result: &mut [u8])
+pub fn finish(s: &[u8], out: Writer, result: &mut [u8])
     ensures { λ _. ⌜ now (result .exit) ≡ finishedIn (areaIn out (now (s .entry))) (now (result .entry)) ⌝ }
 {
     if has_room(s.len(), out, 0, 0) {

@@ -3,7 +3,7 @@
 // A write goes as far as its slice reaches, and a read takes what lies past the end for zeros, so nothing here asks anything of a caller.
 ghost use mathlib.Core.Path.{_≡_};
 ghost use mathlib.Core.List.{[]};
-ghost use Prim.Native.Nat.{min, _+_, _<_};
+ghost use Prim.Native.Nat.{min, _+_, _≤_, _<_};
 ghost use lib.ListN.{length, getD};
 ghost use lib.Seq.{sets};
 ghost use Rattle.format.specs.Entry.{le};
@@ -62,12 +62,45 @@ pub fn read_size(s: &[u8], at: usize) -> u32
     byte(s, at) + 256 * (byte(s, at + 1) + 256 * v2)
 }
 
+// The byte at `i`, which is in the slice.
+fn held_byte(s: &[u8], i: usize) -> u64
+    requires { ⌜ i < length (now s) ⌝ }
+    ensures { λ r. ⌜ (r ≡ getD (now (s .entry)) i 0) × (r < 256) ⌝ }
+{
+    s[i] as u64
+}
+
+// The number whose 4 bytes stand at `at`, all of them in the slice.
+fn four(s: &[u8], at: usize) -> u64
+    requires { ⌜ at + 4 ≤ length (now s) ⌝ }
+    ensures { λ r. ⌜ (r ≡ fromLe (part (now (s .entry)) at 4)) × (r < 0x100000000) ⌝ }
+{
+    let b0 = held_byte(s, at);
+    let b1 = held_byte(s, at + 1);
+    let b2 = held_byte(s, at + 2);
+    let b3 = held_byte(s, at + 3);
+    b0 + 0x100 * b1 + 0x1_0000 * b2 + 0x100_0000 * b3
+}
+
+// The same for 8 bytes: without a test each it is one load of the machine.
+pub fn held_value(s: &[u8], at: usize) -> u64
+    requires { ⌜ at + 8 ≤ length (now s) ⌝ }
+    ensures { λ r. ⌜ r ≡ fromLe (part (now (s .entry)) at 8) ⌝ }
+{
+    let low = four(s, at);
+    let high = four(s, at + 4);
+    low + 0x1_0000_0000 * high
+}
+
 // The number whose 8 bytes stand at `at`.
 pub fn read_value(s: &[u8], at: usize) -> u64
     ensures { λ r. ⌜ r ≡ fromLe (part (now (s .entry)) at 8) ⌝ }
 {
     if at >= s.len() {
         return 0;
+    }
+    if 8 <= s.len() - at {
+        return held_value(s, at);
     }
     let low = read_size(s, at) as u64;
     let high = read_size(s, at + 4) as u64;

@@ -16,7 +16,7 @@ use Rattle.definition.specs.Check.{checkDef, openCheck}
 use Rattle.definition.specs.Substitute.{openSubstitute}
 use Rattle.definition.specs.Registry.{openRegistry}
 use Rattle.definition.specs.Expand.{openExpand}
-use Rattle.definition.specs.Answers.{answer, bare, reading, longBuffers, treeAnswer, expandTapes, expandAnswer}
+use Rattle.definition.specs.Answers.{answer, numberAlone, reading, longBuffers, treeAnswer, expandTapes, expandAnswer}
 use Rattle.definition.specs.Messages.{openMessages}
 use Rattle.definition.specs.Cases.{definitions, cases, run, resultOf, expected, line, runBytes, undeclared}
 
@@ -30,7 +30,7 @@ fourteen-cases = refl
 pub fourteen-cases-through-bytes : map runBytes cases ≡ map expected cases
 unfolding
     openEntry openFlat openMacro openLimits openBuild openTape openText openOutcome openSize openCheck openSubstitute
-    openRegistry openExpand answer bare reading longBuffers treeAnswer expandTapes expandAnswer definitions cases
+    openRegistry openExpand answer numberAlone reading longBuffers treeAnswer expandTapes expandAnswer definitions cases
     resultOf expected line runBytes
 fourteen-cases-through-bytes = refl
 

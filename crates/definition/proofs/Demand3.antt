@@ -18,7 +18,7 @@ use Rattle.format.proofs.Macro.{to-free, from-free}
 use Rattle.definition.specs.Outcome.{Outcome, numberOf}
 use Rattle.definition.specs.Check.{Verdict, checkDef}
 use Rattle.definition.specs.Substitute.{substitute}
-use Rattle.definition.specs.Answers.{Buffers, answer, bare, reading, longBuffers, treeAnswer, substituteTapes, substituteAnswer, verdict, messageAnswer, checkAnswer}
+use Rattle.definition.specs.Answers.{Buffers, answer, numberAlone, reading, longBuffers, treeAnswer, substituteTapes, substituteAnswer, verdict, messageAnswer, checkAnswer}
 use Rattle.definition.specs.Demand3.{Safe, Demand3, Passes, SafeAnswer, Demand3OnTapes}
 use Rattle.definition.proofs.Good.{good-done, good-refused}
 use Rattle.definition.proofs.FreeWalk.{allowed, Leaves, FreeTree, free-substitute}
@@ -67,7 +67,7 @@ passed definition def h p =
     verdict-passes _ _ (checkDef def) (numbered-def def) (rw (long, h) at (p .no-20)) (rw (long, h) at (p .no-21)) (rw (long, h) at (p .no-22))
 
 safe-answer : (b : Buffers) (o : Outcome Tree) → Leaves FreeTree o → SafeAnswer b (treeAnswer b o)
-unfolding treeAnswer answer bare allowed
+unfolding treeAnswer answer numberAlone allowed
 safe-answer b o g = go (longBuffers b)
   where
     tape : Tree → List ℕ
@@ -87,9 +87,9 @@ safe-answer b o g = go (longBuffers b)
           nothing-left = λ e. absurd (not-allowed _ 0 refl t e);
         }
 
-    go : (long : Bool) → SafeAnswer b (answer tape b (elim long [ true ↦ o | false ↦ bare 1 ]))
+    go : (long : Bool) → SafeAnswer b (answer tape b (elim long [ true ↦ o | false ↦ numberAlone 1 ]))
     go true = made o g
-    go false = made (bare 1) (good-refused tt)
+    go false = made (numberAlone 1) (good-refused tt)
 
 pub demand3-on-tapes : Demand3OnTapes
 unfolding substituteAnswer substituteTapes reading

@@ -22,12 +22,12 @@ use Rattle.format.proofs.Exact.{lawful-condition, lawful-definition, lawful-cal
 use Rattle.definition.specs.Outcome.{Refusal, Outcome}
 use Rattle.definition.specs.Check.{Verdict, namesOf, checkDef}
 use Rattle.definition.specs.Registry.{build}
-use Rattle.definition.specs.Answers.{Buffers, padded, answer, bare, reading, longBuffers, treeAnswer, expandTapes, expandAnswer, substituteTapes, substituteAnswer, messageAlone, verdict, messageAnswer, checkAnswer, registryAnswer}
+use Rattle.definition.specs.Answers.{Buffers, padded, answer, numberAlone, reading, longBuffers, treeAnswer, expandTapes, expandAnswer, substituteTapes, substituteAnswer, messageAlone, verdict, messageAnswer, checkAnswer, registryAnswer}
 use Rattle.definition.specs.Kept.{Bounded, CheckBounded, RegistryBounded, SubstituteBounded, ExpandBounded}
 use Rattle.definition.proofs.Good.{good-done, good-refused}
 use Rattle.definition.proofs.Lengths.{Short, Name, Declared, short-reserved, short-duplicate, short-undeclared, short-plain, short-macroInMacro}
 use Rattle.definition.proofs.Verdicts.{Given, passes, refuses, given-body, given-build}
-use Rattle.definition.proofs.KeptSubstitute.{KeptTree, Sized, silent, def-name, def-body, kept-substitute}
+use Rattle.definition.proofs.KeptSubstitute.{KeptTree, Sized, no-message, def-name, def-body, kept-substitute}
 use Rattle.definition.proofs.KeptExpand.{SizedDef, kept-expand}
 
 -- ------------------------------------------------------------------ what an input's tape keeps to
@@ -151,16 +151,16 @@ bounded-refused tape b limit r n h s k =
     }
 
 -- a refusal without message
-bounded-bare : {A : Type 0} (tape : A → List ℕ) (b : Buffers) (limit number : ℕ) → Bounded b limit (answer tape b (bare number))
-unfolding bare
-bounded-bare tape b limit number = bounded-refused tape b limit _ 0 (omega arith) silent (omega arith)
+bounded-number-alone : {A : Type 0} (tape : A → List ℕ) (b : Buffers) (limit number : ℕ) → Bounded b limit (answer tape b (numberAlone number))
+unfolding numberAlone
+bounded-number-alone tape b limit number = bounded-refused tape b limit _ 0 (omega arith) no-message (omega arith)
 
 -- a tape that is read: 2, 3, or what is accepted
 bounded-reading : {A B : Type 0} (tape : B → List ℕ) (b : Buffers) (limit : ℕ) (o : Reading A) (k : A → Outcome B)
     → ((a : A) → o ≡ Reading.accepted a → Bounded b limit (answer tape b (k a))) → Bounded b limit (answer tape b (reading o k))
 unfolding reading
-bounded-reading tape b limit Reading.malformed k f = bounded-bare tape b limit 2
-bounded-reading tape b limit Reading.tooLarge k f = bounded-bare tape b limit 3
+bounded-reading tape b limit Reading.malformed k f = bounded-number-alone tape b limit 2
+bounded-reading tape b limit Reading.tooLarge k f = bounded-number-alone tape b limit 3
 bounded-reading tape b limit (Reading.accepted a) k f = f a refl
 
 -- ------------------------------------------------------------------ check and registry
@@ -174,9 +174,9 @@ unfolding messageAnswer
 bounded-message m o f = go (leb 2048 m) (leb→le 2048 m)
   where
     go : (x : Bool) → (T x → 2048 ≤ m)
-        → Bounded (messageAlone m) 0 (answer nothing (messageAlone m) (elim x [ true ↦ o | false ↦ bare 1 ]))
+        → Bounded (messageAlone m) 0 (answer nothing (messageAlone m) (elim x [ true ↦ o | false ↦ numberAlone 1 ]))
     go true q = f (q tt)
-    go false q = bounded-bare nothing (messageAlone m) 0 1
+    go false q = bounded-number-alone nothing (messageAlone m) 0 1
 
 bounded-verdict : (m : ℕ) {v : Verdict} → 2048 ≤ m → Given ShortRefusal v → Bounded (messageAlone m) 0 (answer nothing (messageAlone m) (verdict v))
 unfolding verdict
@@ -208,12 +208,12 @@ bounded-tree : (b : Buffers) (limit : ℕ) (o : Outcome Tree)
 unfolding treeAnswer longBuffers
 bounded-tree b limit o f = go (longBuffers b) (λ h. h)
   where
-    go : (x : Bool) → (T x → T (longBuffers b)) → Bounded b limit (answer treeTape b (elim x [ true ↦ o | false ↦ bare 1 ]))
+    go : (x : Bool) → (T x → T (longBuffers b)) → Bounded b limit (answer treeTape b (elim x [ true ↦ o | false ↦ numberAlone 1 ]))
     go true h =
         let wide : Bool = leb 12296 (b .resultLength) in
         f (leb→le 12296 (b .resultLength) (and-left wide _ (h tt)))
         (leb→le 2048 (b .messageLength) (and-right (leb 65536 (b .workLength)) _ (and-right wide _ (h tt))))
-    go false h = bounded-bare treeTape b limit 1
+    go false h = bounded-number-alone treeTape b limit 1
 
 bounded-kept : (b : Buffers) (limit : ℕ) {o : Outcome Tree} → 12296 ≤ b .resultLength → 2048 ≤ b .messageLength
     → KeptTree (λ t. t) limit o → Bounded b limit (answer treeTape b o)

@@ -36,8 +36,8 @@ texts-of : {es : List Entry} → All Sized es → Texts Name es
 texts-of h = all-map (λ e s. s .0) h
 
 -- no message
-pub silent : Short []
-silent = lit≤ tt
+pub no-message : Short []
+no-message = lit≤ tt
 
 -- ------------------------------------------------------------------ the budget and the limits
 
@@ -74,7 +74,7 @@ module _ (limit : ℕ) (small : limit < 2 ^ 32) where
   pub kept-limits : (large : Bool) (span n : ℕ) → n ≤ limit
       → Good (KeptRefusal limit) (λ u m. (m ≤ limit) × (large ≡ false)) (checkLimits large span n)
   unfolding checkLimits
-  kept-limits true span n h = good-refused (silent, h)
+  kept-limits true span n h = good-refused (no-message, h)
   kept-limits false span n h = good-done (h, refl)
 
 -- ------------------------------------------------------------------ the walk of a body
@@ -215,7 +215,7 @@ module _ (maps : SubstMaps) (small : maps .limit < 2 ^ 32) (macro : Name (maps .
         step (kept-condition c (all-left (flatCondition c) _ (all-tail (all-tail k))) n h) λ c′ n₁ h₁.
         step (kept-fields fs (all-tail (all-right (flatCondition c) (all-tail (all-tail k)))) s n₁ h₁) λ fs′ n₂ h₂.
         kept-refine (maps .limit) c′ fs′ o n₂ h₂
-    kept-condition (Condition.ConditionCall s c) k n h = good-refused (silent, h)
+    kept-condition (Condition.ConditionCall s c) k n h = good-refused (no-message, h)
 
     kept-agg : (a : AggExpr) → Texts Name (flatAgg a) → (n : ℕ) → n ≤ maps .limit → KeptHere (substTemporalAgg maps a n)
     kept-agg (AggExpr.Sum s v bs c) k n h =
@@ -229,7 +229,7 @@ module _ (maps : SubstMaps) (small : maps .limit < 2 ^ 32) (macro : Name (maps .
         step (kept-binders bs (all-left (flatBinders bs) _ rest) s n h) λ bs′ n₁ h₁.
         step (kept-condition c (all-right (flatBinders bs) rest) n₁ h₁) λ c′ n₂ h₂.
         good-done h₂
-    kept-agg (AggExpr.AggCall s c) k n h = good-refused (silent, h)
+    kept-agg (AggExpr.AggCall s c) k n h = good-refused (no-message, h)
 
     kept-term : (t : Term) → Texts Name (flatTerm t) → (s n : ℕ) → n ≤ maps .limit → KeptHere (substTemporalTerm maps t s n)
     kept-term (Term.ParamRef i) k s n h = step (kept-argFor i (all-head k) s n h) λ a n₁ h₁. kept-pasteTerm s i (all-head k) a n₁ h₁

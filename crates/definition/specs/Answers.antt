@@ -65,12 +65,12 @@ answer tape b (Outcome.refused r charged) =
     }
 
 -- 1, 2, and 3 of a tape: no message, span 0..0, nothing charged
-unfoldable pub bare : {A : Type 0} → ℕ → Outcome A
-bare number = Outcome.refused (refusal number 0 []) 0
+unfoldable pub numberAlone : {A : Type 0} → ℕ → Outcome A
+numberAlone number = Outcome.refused (refusal number 0 []) 0
 
 unfoldable pub reading : {A B : Type 0} → Reading A → (A → Outcome B) → Outcome B
-reading Reading.malformed k = bare 2
-reading Reading.tooLarge k = bare 3
+reading Reading.malformed k = numberAlone 2
+reading Reading.tooLarge k = numberAlone 3
 reading (Reading.accepted a) k = k a
 
 -- ------------------------------------------------------------------ expansion and substitution
@@ -81,7 +81,7 @@ unfoldable pub longBuffers : Buffers → Bool
 longBuffers b = leb 12296 (b .resultLength) && (leb 65536 (b .workLength) && leb 2048 (b .messageLength))
 
 unfoldable pub treeAnswer : Buffers → Outcome Tree → Answer
-treeAnswer b o = answer (λ (t : Tree). encode (flatTree t)) b (elim (longBuffers b) [ true ↦ o | false ↦ bare 1 ])
+treeAnswer b o = answer (λ (t : Tree). encode (flatTree t)) b (elim (longBuffers b) [ true ↦ o | false ↦ numberAlone 1 ])
 
 -- "then tapes, registry or definition first"
 unfoldable pub expandTapes : ℕ → List ℕ → List ℕ → Outcome Tree
@@ -109,7 +109,7 @@ verdict none = Outcome.done tt 0
 verdict (some r) = Outcome.refused r 0
 
 unfoldable pub messageAnswer : ℕ → Outcome (Unit {0}) → Answer
-messageAnswer m o = answer (λ (u : Unit {0}). []) (messageAlone m) (elim (leb 2048 m) [ true ↦ o | false ↦ bare 1 ])
+messageAnswer m o = answer (λ (u : Unit {0}). []) (messageAlone m) (elim (leb 2048 m) [ true ↦ o | false ↦ numberAlone 1 ])
 
 unfoldable pub checkAnswer : ℕ → List ℕ → Answer
 checkAnswer m definition = messageAnswer m (reading (read definitionRoot definition) λ def. verdict (checkDef def))
@@ -120,6 +120,6 @@ registryAnswer m registry = messageAnswer m (reading (read registryRoot registry
 -- Whoever unfolds this unfolds every definition of this file.
 unfoldable pub openAnswers : Unit {0}
 unfolding
-    padded answer bare reading longBuffers treeAnswer expandTapes expandAnswer substituteTapes substituteAnswer
+    padded answer numberAlone reading longBuffers treeAnswer expandTapes expandAnswer substituteTapes substituteAnswer
     verdict messageAnswer checkAnswer registryAnswer
 openAnswers = tt

@@ -2,33 +2,33 @@
 -- Assumes nothing.
 use Prim.Native.Nat.{ℕ}
 use mathlib.Core.List.{List}
+use Rattle.grammar.specs.Grammar as grammar
 use Rattle.tape.specs.declared.layout.Layout.{Layout}
-use Rattle.tape.specs.declared.layout.Place.{Place}
 use Rattle.answer.specs.declared.Verdict.{Verdict}
 use Rattle.answer.specs.declared.Verdict.the-variants as verdict
-use Rattle.registry.specs.Places.{indexAt, buildAt}
-use Rattle.arguments.specs.Output.{state}
+use Rattle.registry.specs.Places.{Row, indexAt, buildAt}
+use Rattle.walk_state.specs.Writing.{state}
 use Rattle.area.specs.Area.{emptyAt}
-use Rattle.front.specs.Front.{origin, fitsIn}
-use Rattle.arguments.specs.declared.maps.Walk.the-variants as walk
-use Rattle.calls.specs.Output.{Reads, Progress, progress, onWork}
-use Rattle.expansion_walk.specs.Walkers.{walkers}
+use Rattle.subst_call.specs.Front.{origin, refuseTooLargeIn}
+use Rattle.walk_state.specs.declared.writing.Walk.the-variants as walk
+use Rattle.expand_calls.specs.Output.{Reads, Progress, progress, onWork}
+use Rattle.expand_walk.specs.Walkers.{walkers}
 
 -- "Last, 3 with 0..0 for the whole result."
 unfoldable pub wholeIn : Reads → List ℕ → List ℕ → Progress
 wholeIn R work result =
-    onWork (fitsIn 0 1) (walkers R 64 .condition (progress (walk.Going (state origin (emptyAt 0) 0)) work result))
+    onWork (refuseTooLargeIn 0 grammar.condition) (walkers R 64 .condition (progress (walk.Going (state origin (emptyAt 0) 0)) work result))
 
 abbrev pub onVerdict : Progress → List ℕ → List ℕ → Verdict → Progress
 onVerdict X work result verdict.Passes = X
 onVerdict X work result (verdict.Refused f) = progress (walk.Refused f 0) work result
 
-abbrev pub readsOf : List ℕ → Layout → List Place → List ℕ → Layout → ℕ → Reads
-readsOf reg d ps cond c limit =
-    record { registry = reg; places = ps; condition = cond; definitions = d; layout = c; limit = limit }
+abbrev pub readsOf : List ℕ → Layout → List Row → List ℕ → Layout → ℕ → Reads
+readsOf reg d rs cond c limit =
+    record { registry = reg; places = rs; condition = cond; definitions = d; layout = c; limit = limit }
 
 -- 10 and 11, in a table that has room for so many definitions; then the walk
 unfoldable pub namedIn : List ℕ → Layout → ℕ → List ℕ → Layout → ℕ → List ℕ → List ℕ → Progress
 namedIn reg d room cond c limit work result =
-    let ps : List Place = indexAt reg d room in
-    onVerdict (wholeIn (readsOf reg d ps cond c limit) work result) work result (buildAt reg d ps)
+    let rs : List Row = indexAt reg d room in
+    onVerdict (wholeIn (readsOf reg d rs cond c limit) work result) work result (buildAt reg d rs)

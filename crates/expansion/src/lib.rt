@@ -1,28 +1,29 @@
 // The expansion of macros/mod.rs (document 01, module 7): a condition, and the registry of the macros that it calls.
 use answer::Answer;
 use answer::Verdict;
+use answer::answer_walk;
+use answer::long_buffers;
+use answer::number_alone;
+use answer::tapes::Accepted;
+use answer::tapes::accept_two;
 use area::empty;
-use arguments::maps::State;
-use arguments::maps::Walk;
-use calls::output::Context;
-use expansion_walk::expand_condition;
-use front::fits;
-use registry::build_index;
+use expand_calls::output::Context;
+use expand_walk::expand_condition;
+use grammar::codes::CONDITION;
+use grammar::codes::DEFINITIONS;
+use registry::check_names;
 use registry::index;
-use substitution::ends::conclude;
-use substitution::ends::long_buffers;
-use substitution::ends::refuse_bare;
-use tape::accept::accept;
-use tape::header::Opened;
+use subst_call::refuse_too_large;
 use tape::layout::Layout;
 use tape::layout::Place;
+use walk_state::writing::State;
+use walk_state::writing::Walk;
 ghost use mathlib.Core.Path.{_≡_};
 ghost use Prim.Native.Nat.{_/_};
 ghost use lib.ListN.{length};
-ghost use Rattle.answer.specs.Told.{told};
+ghost use Rattle.answer.specs.Matches.{answerWith, buffers};
 ghost use Rattle.definition.specs.Answers.{expandAnswer};
-ghost use Rattle.substitution.specs.Ends.{buffers};
-ghost use Rattle.calls.specs.Output.{reads, progress};
+ghost use Rattle.expand_calls.specs.Output.{reads, progress};
 ghost use Rattle.expansion.specs.Expansion.{wholeIn, namedIn};
 
 // The walk over the whole condition, and 3 with 0..0 if what it came to is too large.
@@ -43,7 +44,7 @@ fn expand_whole(
         charged: 0,
     };
     let w = expand_condition(64, reg, places, cond, work, result, x, Walk::Going(start));
-    fits(0, 1, work, w)
+    refuse_too_large(0, CONDITION, work, w)
 }
 
 // 10 and 11, then the walk. The registry is indexed once.
@@ -60,7 +61,7 @@ fn expand_named(
     ensures { λ r. ⌜ progress r (now (work .exit)) (now (result .exit)) ≡ namedIn (now (reg .entry)) d (length (now (places .entry)) / 2) (now (cond .entry)) c limit (now (work .entry)) (now (result .entry)) ⌝ }
 {
     let count = index(reg, d, places);
-    match build_index(reg, d, places, count) {
+    match check_names(reg, d, places, count) {
         Verdict::Passes => {
             let x = Context {
                 registry: d,
@@ -74,7 +75,7 @@ fn expand_named(
     }
 }
 
-// The places of 255 definitions, as many as a registry can have.
+// The rows of 255 definitions, as many as a registry can have.
 fn expand_tapes(
     reg: &[u8],
     d: Layout,
@@ -99,23 +100,17 @@ pub fn expand<'a>(
     work: &mut [u8],
     message: &mut [u8],
 ) -> Answer
-    ensures { λ r. ⌜ told r (now (result .exit)) (now (work .exit)) (now (message .exit)) ≡ expandAnswer (buffers (length (now (result .entry))) (length (now (work .entry))) (length (now (message .entry)))) limit (now (registry .entry)) (now (condition .entry)) ⌝ }
+    ensures { λ r. ⌜ answerWith r (now (result .exit)) (now (work .exit)) (now (message .exit)) ≡ expandAnswer (buffers (length (now (result .entry))) (length (now (work .entry))) (length (now (message .entry)))) limit (now (registry .entry)) (now (condition .entry)) ⌝ }
 {
     if !long_buffers(result.len(), work.len(), message.len()) {
-        return refuse_bare(1, result, work, message);
+        return number_alone(1, 0, result, work, message);
     }
-    let opened = accept(registry, 24);
-    match opened {
-        Opened::Tape(d) => {
-            let given = accept(condition, 1);
-            match given {
-                Opened::Tape(c) => {
-                    let w = expand_tapes(registry, d, condition, c, limit, work, result);
-                    conclude(registry, d, condition, c, w, result, work, message)
-                }
-                Opened::Refused(n) => refuse_bare(n, result, work, message),
-            }
+    let accepted = accept_two(registry, DEFINITIONS, condition, CONDITION);
+    match accepted {
+        Accepted::Both(d, c) => {
+            let w = expand_tapes(registry, d, condition, c, limit, work, result);
+            answer_walk(registry, d, condition, c, w, result, work, message)
         }
-        Opened::Refused(n) => refuse_bare(n, result, work, message),
+        Accepted::Refused(n) => number_alone(n, 0, result, work, message),
     }
 }

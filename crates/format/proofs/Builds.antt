@@ -11,7 +11,7 @@ use lib.ListN.{length}
 use Rattle.format.specs.Entry.{Text, Entry, entry, textEntry}
 use Rattle.format.specs.Ast.{TimeUnit, Interval, WithinSpec, BinderSlot, BinderType, TypedBinder, Sigil, CmpOp, ArithOp, Condition, Term, AggExpr, Call, CallArg, CallArgs, NamedArgs, Terms, Tree, MacroParam, MacroBody, MacroDef}
 use Rattle.format.specs.Flat.{flatTexts, flatUnit, flatInterval, flatWithin, flatSlot, flatType, flatBinder, flatBinders, flatSigil, flatCmp, flatArith, flatBool, lengthTerms, lengthFields, lengthArgs, flatCondition, flatTerm, flatAgg, flatCall, flatArg, flatArgs, flatFields, flatTerms, flatTree, flatParams, flatBody, flatDef, flatDefs, flatRegistry}
-use Rattle.format.specs.Build.{Item, Stack, Pop, give, onward, _>>=_, only, pop, asLeaf, asCondition, asTerm, asAgg, asCall, asDefinition, asTree, popCondition, popTerm, number, bare, guard, texted, mapRows, choose, popRow, many, listOf, popText, popTexts, popSpan, interval, intervalRows, popInterval, withinRows, popWithin, slotRows, popSlot, typeRows, popType, popBinder, sigilRows, popSigil, nth, cmpOps, arithOps, popCmp, popField, consNamed, popFields, popBinders, argRows, popArgs, popParam, popParams, bodyRows, popBody, conditionRows, termRows, aggRows, callRows, definitionRows, table, restack, push, pushOn, buildOn, build}
+use Rattle.format.specs.Build.{Item, Stack, Pop, give, onward, _>>=_, only, pop, asLeaf, asCondition, asTerm, asAgg, asCall, asDefinition, asTree, popCondition, popTerm, number, noValue, guard, texted, mapRows, choose, popRow, many, listOf, popText, popTexts, popSpan, interval, intervalRows, popInterval, withinRows, popWithin, slotRows, popSlot, typeRows, popType, popBinder, sigilRows, popSigil, nth, cmpOps, arithOps, popCmp, popField, consNamed, popFields, popBinders, argRows, popArgs, popParam, popParams, bodyRows, popBody, conditionRows, termRows, aggRows, callRows, definitionRows, table, restack, push, pushOn, buildOn, build}
 use Rattle.format.specs.Tape.{Root, conditionRoot, callRoot, definitionRoot, registryRoot, treeRoot}
 use Rattle.format.proofs.All.{All, all-nil, all-cons, all-append}
 
@@ -44,7 +44,7 @@ pushes = tt
 
 -- to unfold this is to unfold what takes an entry from the stack by its row
 pops : Unit {0}
-unfolding popRow pop asLeaf only _>>=_ onward choose number bare texted guard give
+unfolding popRow pop asLeaf only _>>=_ onward choose number noValue texted guard give
 pops = tt
 
 wait-40 : (t : Text) → Waits (textEntry 40 t)
@@ -305,7 +305,7 @@ arith ArithOp.Mul l r st = refl
 
 mutual
   unfolding pushes flatCondition buildOn pushOn number
-      bare texted guard give _>>=_ onward popCondition popTerm pop asCondition asTerm asAgg asCall only fieldItems termItems
+      noValue texted guard give _>>=_ onward popCondition popTerm pop asCondition asTerm asAgg asCall only fieldItems termItems
       argItems argsItems popTexts nth arithOps flatArith flatBool
 
   builds-condition : (c : Condition) (st : Stack) → buildOn (some st) (flatCondition c) ≡ some (Item.condition c ∷ st)
@@ -452,7 +452,7 @@ mutual
       rw (build-append (some st) (flatTerm t) (flatTerms ts), builds-terms ts st) (builds-term t (termItems ts ++ st))
 
 builds-body : (b : MacroBody) (st : Stack) → (o : Stack) × (buildOn (some st) (flatBody b) ≡ some o) × (popBody o ≡ some (b, st))
-unfolding pushes flatBody buildOn pushOn number bare
+unfolding pushes flatBody buildOn pushOn number noValue
     give _>>=_ onward popCondition popTerm pop asLeaf asCondition asTerm only popBody popRow bodyRows
 builds-body MacroBody.Cedar st = (Item.leaf (entry 61 0) ∷ st, refl, refl)
 builds-body (MacroBody.TemporalCondition c) st =

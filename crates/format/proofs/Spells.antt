@@ -10,7 +10,7 @@ use lib.ListN.{length}
 use Rattle.format.specs.Entry.{Text, Entry, entry, textEntry}
 use Rattle.format.specs.Ast.{Interval, WithinSpec, BinderSlot, BinderType, TypedBinder, Sigil, CmpOp, ArithOp, Condition, Term, CallArgs, NamedArgs, Terms, MacroParam}
 use Rattle.format.specs.Flat.{flatTexts, flatUnit, flatInterval, flatWithin, flatSlot, flatType, flatBinder, flatBinders, flatSigil, flatCmp, flatArith, flatBool, lengthTerms, lengthFields, lengthArgs, flatCondition, flatTerm, flatAgg, flatCall, flatArg, flatArgs, flatFields, flatTerms, flatTree, flatParams, flatBody, flatDef, flatDefs, flatRegistry}
-use Rattle.format.specs.Build.{Item, Stack, Pop, give, fail, onward, _>>=_, only, pop, asLeaf, asCondition, asTerm, asAgg, asCall, asDefinition, asTree, popCondition, popTerm, number, bare, guard, texted, Row, row, mapRows, choose, popRow, many, listOf, popText, popTexts, popSpan, interval, intervalRows, popInterval, withinRows, popWithin, slotRows, popSlot, typeRows, popType, popBinder, sigilRows, popSigil, nth, cmpOps, arithOps, popCmp, popField, consNamed, popFields, popBinders, argRows, popArgs, popParam, popParams, bodyRows, popBody, conditionRows, termRows, aggRows, callRows, definitionRows, table, restack, push, pushOn, buildOn, build}
+use Rattle.format.specs.Build.{Item, Stack, Pop, give, fail, onward, _>>=_, only, pop, asLeaf, asCondition, asTerm, asAgg, asCall, asDefinition, asTree, popCondition, popTerm, number, noValue, guard, texted, Row, row, mapRows, choose, popRow, many, listOf, popText, popTexts, popSpan, interval, intervalRows, popInterval, withinRows, popWithin, slotRows, popSlot, typeRows, popType, popBinder, sigilRows, popSigil, nth, cmpOps, arithOps, popCmp, popField, consNamed, popFields, popBinders, argRows, popArgs, popParam, popParams, bodyRows, popBody, conditionRows, termRows, aggRows, callRows, definitionRows, table, restack, push, pushOn, buildOn, build}
 
 unfoldable pub flatItem : Item → List Entry
 flatItem (Item.leaf e) = e ∷ []
@@ -176,11 +176,11 @@ unfolding number
 s-number c k h v [] = h v
 s-number c k h v (b ∷ t) = s-fail
 
-s-bare : {A : Type 0} {f : A → List Entry} (c : ℕ) (p : Pop A) → Spells f (entry c 0 ∷ []) p → RowSpells f (row c (bare p))
-unfolding bare
-s-bare c p h zero [] = h
-s-bare c p h zero (b ∷ t) = s-fail
-s-bare c p h (suc v) t = s-fail
+s-no-value : {A : Type 0} {f : A → List Entry} (c : ℕ) (p : Pop A) → Spells f (entry c 0 ∷ []) p → RowSpells f (row c (noValue p))
+unfolding noValue
+s-no-value c p h zero [] = h
+s-no-value c p h zero (b ∷ t) = s-fail
+s-no-value c p h (suc v) t = s-fail
 
 s-texted : {A : Type 0} {f : A → List Entry} (c : ℕ) (k : Text → Pop A)
     → ((t : Text) → Spells f (textEntry c t ∷ []) (k t)) → RowSpells f (row c (texted k))
@@ -308,7 +308,7 @@ s-type : Spells flatType [] popType
 unfolding popType typeRows popTexts flatType
 s-type =
     s-popRow
-    (s-row (s-bare 46 _ (s-give _ refl))
+    (s-row (s-no-value 46 _ (s-give _ refl))
     (s-row (s-counted 47 BinderType.Named texts s-text λ ts. refl) s-end))
 
 s-binder : Spells flatBinder [] popBinder
@@ -381,9 +381,9 @@ s-arg : Spells flatArg [] (popRow argRows)
 unfolding argRows flatArg
 s-arg =
     s-popRow
-    (s-row (s-bare 55 _ (s-bind s-condition λ c. s-give _ refl))
-    (s-row (s-bare 56 _ (s-bind s-term λ t. s-give _ refl))
-    (s-row (s-bare 57 _ (s-bind s-interval λ i. s-give _ refl)) s-end)))
+    (s-row (s-no-value 55 _ (s-bind s-condition λ c. s-give _ refl))
+    (s-row (s-no-value 56 _ (s-bind s-term λ t. s-give _ refl))
+    (s-row (s-no-value 57 _ (s-bind s-interval λ i. s-give _ refl)) s-end)))
 
 args : Listing flatArg CallArgs.noArgs CallArgs.consArg lengthArgs flatArgs
 unfolding flatArgs lengthArgs
@@ -412,9 +412,9 @@ s-body : Spells flatBody [] popBody
 unfolding popBody bodyRows flatBody
 s-body =
     s-popRow
-    (s-row (s-bare 61 _ (s-give _ refl))
-    (s-row (s-bare 62 _ (s-bind s-condition λ c. s-give _ refl))
-    (s-row (s-bare 63 _ (s-bind s-term λ t. s-give _ refl)) s-end)))
+    (s-row (s-no-value 61 _ (s-give _ refl))
+    (s-row (s-no-value 62 _ (s-bind s-condition λ c. s-give _ refl))
+    (s-row (s-no-value 63 _ (s-bind s-term λ t. s-give _ refl)) s-end)))
 
 -- ------------------------------------------------------------------ the trees
 
@@ -448,7 +448,7 @@ s-conditions =
 s-terms : RowsSpell flatTerm termRows
 unfolding termRows popTexts flatTerm
 s-terms =
-    s-row (s-bare 20 _ (s-bind s-text λ ty. s-bind s-text λ id. s-give _ refl))
+    s-row (s-no-value 20 _ (s-bind s-text λ ty. s-bind s-text λ id. s-give _ refl))
     (s-row (s-number 21 _ λ n. s-give _ refl)
     (s-row (s-texted 22 _ λ t. s-give _ refl)
     (s-row (s-texted 23 _ λ t. s-give _ refl)
@@ -456,9 +456,9 @@ s-terms =
     (s-row (s-counted 25 Term.ContextField texts s-text λ ts. refl)
     (s-row (s-counted 26 Term.ScopeField texts s-text λ ts. refl)
     (s-row (s-texted 27 _ λ t. s-give _ refl)
-    (s-row (s-bare 28 _ (s-give _ refl))
+    (s-row (s-no-value 28 _ (s-give _ refl))
     (s-row (s-counted 29 Term.Array terms s-term λ ts. refl)
-    (s-row (s-bare 30 _ (s-bind s-agg λ a. s-give _ refl))
+    (s-row (s-no-value 30 _ (s-bind s-agg λ a. s-give _ refl))
     (s-row
     (s-number 31 _ λ n. s-then (s-ariths (λ k. entry 31 k ∷ []) n) λ op. s-bind s-term λ l. s-bind s-term λ r. s-give _ refl)
     (s-row (s-texted 32 _ λ t. s-give _ refl)

@@ -123,10 +123,10 @@ unfoldable pub number : {A : Type 0} → (ℕ → Pop A) → Reader A
 number k v [] = k v
 number k v (b ∷ t) = fail
 
-unfoldable pub bare : {A : Type 0} → Pop A → Reader A
-bare p zero [] = p
-bare p zero (b ∷ t) = fail
-bare p (suc v) t = fail
+unfoldable pub noValue : {A : Type 0} → Pop A → Reader A
+noValue p zero [] = p
+noValue p zero (b ∷ t) = fail
+noValue p (suc v) t = fail
 
 unfoldable pub guard : {A : Type 0} → Bool → Pop A → Pop A
 guard true p = p
@@ -206,7 +206,7 @@ popSlot = popRow slotRows
 
 unfoldable pub typeRows : List (Row BinderType)
 typeRows =
-    row 46 (bare (give BinderType.Timepoint))
+    row 46 (noValue (give BinderType.Timepoint))
     ∷ row 47 (number λ n. popTexts n >>= λ ts. give (BinderType.Named ts))
     ∷ []
 
@@ -252,9 +252,9 @@ popBinders = listOf [] _∷_ popBinder
 
 unfoldable pub argRows : List (Row CallArg)
 argRows =
-    row 55 (bare (popCondition >>= λ c. give (CallArg.ConditionArg c)))
-    ∷ row 56 (bare (popTerm >>= λ t. give (CallArg.TermArg t)))
-    ∷ row 57 (bare (popInterval >>= λ i. give (CallArg.WithinArg i)))
+    row 55 (noValue (popCondition >>= λ c. give (CallArg.ConditionArg c)))
+    ∷ row 56 (noValue (popTerm >>= λ t. give (CallArg.TermArg t)))
+    ∷ row 57 (noValue (popInterval >>= λ i. give (CallArg.WithinArg i)))
     ∷ []
 
 unfoldable pub popArgs : Pop CallArgs
@@ -268,9 +268,9 @@ popParams = listOf [] _∷_ popParam
 
 unfoldable pub bodyRows : List (Row MacroBody)
 bodyRows =
-    row 61 (bare (give MacroBody.Cedar))
-    ∷ row 62 (bare (popCondition >>= λ c. give (MacroBody.TemporalCondition c)))
-    ∷ row 63 (bare (popTerm >>= λ t. give (MacroBody.TemporalValue t)))
+    row 61 (noValue (give MacroBody.Cedar))
+    ∷ row 62 (noValue (popCondition >>= λ c. give (MacroBody.TemporalCondition c)))
+    ∷ row 63 (noValue (popTerm >>= λ t. give (MacroBody.TemporalValue t)))
     ∷ []
 
 unfoldable pub popBody : Pop MacroBody
@@ -305,7 +305,7 @@ conditionRows =
 
 unfoldable pub termRows : List (Row Term)
 termRows =
-    row 20 (bare (popText >>= λ ty. popText >>= λ id. give (Term.Entity ty id)))
+    row 20 (noValue (popText >>= λ ty. popText >>= λ id. give (Term.Entity ty id)))
     ∷ row 21 (number λ n. give (Term.Integer n))
     ∷ row 22 (texted λ t. give (Term.Decimal t))
     ∷ row 23 (texted λ t. give (Term.String t))
@@ -313,9 +313,9 @@ termRows =
     ∷ row 25 (number λ n. popTexts n >>= λ path. give (Term.ContextField path))
     ∷ row 26 (number λ n. popTexts n >>= λ path. give (Term.ScopeField path))
     ∷ row 27 (texted λ t. give (Term.Var t))
-    ∷ row 28 (bare (give Term.Wildcard))
+    ∷ row 28 (noValue (give Term.Wildcard))
     ∷ row 29 (number λ n. many Terms.noTerms Terms.consTerm popTerm n >>= λ ts. give (Term.Array ts))
-    ∷ row 30 (bare (pop asAgg >>= λ a. give (Term.Agg a)))
+    ∷ row 30 (noValue (pop asAgg >>= λ a. give (Term.Agg a)))
     ∷ row 31 (number λ n. nth arithOps n >>= λ op. popTerm >>= λ l. popTerm >>= λ r. give (Term.Arith op l r))
     ∷ row 32 (texted λ t. give (Term.ParamRef t))
     ∷ row 33 (texted λ t. give (Term.BinderRef t))
@@ -372,7 +372,7 @@ build es = buildOn (some []) es
 unfoldable pub openBuild : Unit {0}
 unfolding
     give fail onward _>>=_ only pop asLeaf asCondition asTerm asAgg asCall asDefinition asTree popCondition popTerm number
-    bare guard texted mapRows choose popRow many listOf popText popTexts popSpan interval intervalRows popInterval
+    noValue guard texted mapRows choose popRow many listOf popText popTexts popSpan interval intervalRows popInterval
     withinRows popWithin slotRows popSlot typeRows popType popBinder sigilRows popSigil nth cmpOps arithOps popCmp
     popField popFields popBinders argRows popArgs popParam popParams bodyRows popBody conditionRows termRows aggRows
     callRows definitionRows table restack push pushOn buildOn build

@@ -14,7 +14,8 @@ use lib.Seq.{drop-cons, getD-set-same, drop-set-lt}
 use Rattle.grammar.specs.Grammar.{once, sortsOf}
 use Rattle.grammar.specs.Pick.{pick}
 use Rattle.grammar.specs.Waits.{wait, waits, counted}
-use Rattle.grammar.specs.Stack.{sortsIn, isEach, followsOf, cell, cellOf, Fits, waitsOf, stackOf}
+use Rattle.grammar.specs.Words.{sortsIn, isEach, followsOf}
+use Rattle.grammar.specs.Stack.{cell, cellOf, Fits, waitsOf, stackOf}
 use Rattle.grammar.specs.declared.stack.Cell.{Cell}
 use Rattle.format.proofs.Tests.{and-left, and-right, from-true}
 
@@ -35,6 +36,41 @@ packed c f =
     let e₃ : x / 0x20000000000 % 128 ≡ c .nesting = low-part _ _ 128 d₃ (omega arith) in
     let e₄ : x / 0x1000000000000 % 8 ≡ c .calls = low-part _ 0 8 (omega arith) (omega arith) in
     rw (e₁, e₂, e₃, e₄)
+
+-- what stands above the sorts of a cell's number, by halves
+above-41 : (x : ℕ) → x / 0x20000000000 ≡ x / 0x40000000 / 2048
+above-41 x = omega arith
+
+above-48 : (x : ℕ) → x / 0x1000000000000 ≡ x / 0x40000000 / 0x40000
+above-48 x = omega arith
+
+-- a cell's number with its first sort less, and with its last sort once less
+pub word-less : (w : ℕ) → cellOf (w - w % 0x40000000 + w % 0x40000000 / 64)
+    ≡ cell (w % 0x40000000 / 64) (w / 0x40000000 % 2048) (w / 0x20000000000 % 128) (w / 0x1000000000000 % 8)
+word-less w =
+    let x = w - w % 0x40000000 + w % 0x40000000 / 64 in
+    let e₁ : x % 0x40000000 ≡ w % 0x40000000 / 64 = omega arith in
+    let e₂ : x / 0x40000000 ≡ w / 0x40000000 = omega arith in
+    rw (above-41 x, above-48 x, above-41 w, above-48 w, e₁, e₂)
+
+module _ (q : ℕ) (h : 0 < q % 2048) where
+  one-less : (q - 1) % 2048 ≡ q % 2048 - 1
+  one-less = omega arith
+
+  same-41 : (q - 1) / 2048 ≡ q / 2048
+  same-41 = omega arith
+
+  same-48 : (q - 1) / 0x40000 ≡ q / 0x40000
+  same-48 = omega arith
+
+pub more-less : (w : ℕ) → 0 < w / 0x40000000 % 2048 → cellOf (w - 0x40000000)
+    ≡ cell (w % 0x40000000) (w / 0x40000000 % 2048 - 1) (w / 0x20000000000 % 128) (w / 0x1000000000000 % 8)
+more-less w h =
+    let x = w - 0x40000000 in
+    let q = w / 0x40000000 in
+    let e₁ : x % 0x40000000 ≡ w % 0x40000000 = omega arith in
+    let e₂ : x / 0x40000000 ≡ q - 1 = omega arith in
+    rw (above-41 x, above-48 x, above-41 w, above-48 w, e₁, e₂, one-less q h, same-41 q h, same-48 q h)
 
 -- the cell on top, and the others
 pub top-cell : (s : List ℕ) (top : ℕ) → top < length s → stackOf s top ≡ waitsOf (cellOf (getD s top 0)) ++ stackOf s (top + 1)

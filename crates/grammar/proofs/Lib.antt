@@ -1,3 +1,4 @@
 mod Table
 pub mod Cells
-mod Words
+pub mod Marks
+pub mod Leaves

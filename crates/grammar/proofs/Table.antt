@@ -30,7 +30,7 @@ same true b = b
 same false true = false
 same false false = true
 
-same-eq : (a b : Bool) → T (same a b) → a ≡ b
+pub same-eq : (a b : Bool) → T (same a b) → a ≡ b
 same-eq true true t = refl
 same-eq true false t = absurd t
 same-eq false true t = absurd t

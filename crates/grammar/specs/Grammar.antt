@@ -1,11 +1,9 @@
 -- Document 01's table "Codes on the tape": what may stand at a place (its sort), and the sorts of what follows.
 -- Assumes nothing.
-use Prim.Native.Nat.{ℕ, _+_}
+use Prim.Native.Nat.{ℕ}
 use mathlib.Core.List.{List, [], _∷_}
-use mathlib.Core.Bool.{Bool, _&&_}
-use lib.ListN.{getD, replicate}
-use lib.Dec.{leb, ltb}
-use Rattle.grammar.specs.Pick.{pick}
+use mathlib.Core.Bool.{Bool, true, false}
+use lib.ListN.{replicate}
 
 -- the sorts
 abbrev pub condition : ℕ
@@ -79,19 +77,52 @@ arguments = 22
 abbrev pub parameters : ℕ
 parameters = 23
 
--- 24 is the list of definitions, the root of a registry, which stands in no row
+-- the root of a registry, which stands in no row
+abbrev pub definitions : ℕ
+definitions = 24
 
--- the codes of a sort, from low to high
-pub record Sort : Type 0 where
+-- what follows an entry: one of each sort, or as many of one sort as its value says
+pub data Follows : Type 0 where
+  once : (ss : List ℕ) → Follows
+  each : (s : ℕ) → Follows
+
+abbrev pub sortsOf : Follows → ℕ → List ℕ
+sortsOf (once ss) v = ss
+sortsOf (each s) v = replicate v s
+
+-- the codes from low to high
+pub record Range : Type 0 where
   pub low : ℕ
   pub high : ℕ
 
+abbrev pub range : ℕ → ℕ → Range
+range low high = record { low = low; high = high }
+
+-- A sort: the codes that may stand at a place of it, two ranges at the most, the lower first; what follows there, where the sort says it and not the code;
+-- and whether it is a list of at most 16.
+pub record Sort : Type 0 where
+  pub ranges : List Range
+  pub own : Follows
+  pub few : Bool
+
+-- the codes say what follows
 abbrev pub codes : ℕ → ℕ → Sort
-codes low high = record { low = low; high = high }
+codes low high = record { ranges = range low high ∷ []; own = once []; few = false }
+
+-- the sort says it
+abbrev pub codesWith : ℕ → ℕ → Follows → Sort
+codesWith low high own = record { ranges = range low high ∷ []; own = own; few = false }
+
+-- a list, 41 and its items; and one of at most 16
+abbrev pub listOf : ℕ → Sort
+listOf s = codesWith 41 41 (each s)
+
+abbrev pub shortListOf : ℕ → Sort
+shortListOf s = record { ranges = range 41 41 ∷ []; own = each s; few = true }
 
 -- no code is of this sort
 abbrev pub noSort : Sort
-noSort = codes 1 0
+noSort = record { ranges = []; own = once []; few = false }
 
 -- the sorts by their numbers; 0 is none
 abbrev pub sorts : List Sort
@@ -112,126 +143,146 @@ sorts =
     ∷ codes 58 59  -- sigil
     ∷ codes 60 60  -- definition
     ∷ codes 61 63  -- body
-    ∷ codes 40 40  -- field
-    ∷ codes 42 42  -- parameter
-    ∷ codes 43 45  -- binding
-    ∷ codes 41 41
-    ∷ codes 41 41
-    ∷ codes 41 41
-    ∷ codes 41 41
-    ∷ codes 41 41
-    ∷ codes 41 41
+    ∷ codesWith 40 40 (once (term ∷ []))  -- field
+    ∷ codesWith 42 42 (once (text ∷ []))  -- parameter
+    ∷ codesWith 43 45 (once (type ∷ []))  -- binding
+    ∷ listOf text
+    ∷ listOf field
+    ∷ listOf binding
+    ∷ listOf argument
+    ∷ shortListOf parameter
+    ∷ listOf definition
     ∷ []
 
-abbrev pub inSort : ℕ → ℕ → Bool
-inSort s code = leb (getD sorts s noSort .low) code && leb code (getD sorts s noSort .high)
+-- what a scan asks of a code: whether its value is a text's length, of up to 255 bytes, or of a name's; whether it counts in nesting, and
+-- may then have others in it that do; and whether it is a call
+pub data Mark : Type 0 where
+  isText : Mark
+  isLong : Mark
+  isName : Mark
+  isNode : Mark
+  isInner : Mark
+  isCall : Mark
 
--- what follows an entry: one of each sort, or as many of one sort as its value says
-pub data Follows : Type 0 where
-  once : (ss : List ℕ) → Follows
-  each : (s : ℕ) → Follows
-
-abbrev pub sortsOf : Follows → ℕ → List ℕ
-sortsOf (once ss) v = ss
-sortsOf (each s) v = replicate v s
-
--- how many values an entry may have, from 0 on, or `any`; and what follows it
+-- how many values an entry may have, from 0 on, or `any`; what follows it; and its marks
 pub record Row : Type 0 where
   pub values : ℕ
   pub follows : Follows
+  pub marks : List Mark
 
 -- any value: a span, a text's length, a count, an integer or an amount
 abbrev pub any : ℕ
 any = 0
 
 abbrev pub row : ℕ → List ℕ → Row
-row values ss = record { values = values; follows = once ss }
+row values ss = record { values = values; follows = once ss; marks = [] }
 
 abbrev pub counts : ℕ → Row
-counts s = record { values = any; follows = each s }
+counts s = record { values = any; follows = each s; marks = [] }
+
+-- a text's length
+abbrev pub spelled : Row
+spelled = record { values = any; follows = once []; marks = Mark.isText ∷ [] }
+
+-- the same with a mark more
+abbrev pub marked : Mark → Row → Row
+marked m r = record { values = r .values; follows = r .follows; marks = m ∷ r .marks }
+
+abbrev pub node : Row → Row
+node r = marked Mark.isNode r
+
+-- a node that may have nodes in it
+abbrev pub inner : Row → Row
+inner r = marked Mark.isInner (node r)
+
+abbrev pub long : Row → Row
+long r = marked Mark.isLong r
+
+abbrev pub name : Row → Row
+name r = marked Mark.isName r
 
 -- no such code
 abbrev pub unused : Row
 unused = row 1 []
 
--- the codes from 0 on, and behind them the sorts from 16 on
+-- the codes from 0 on
 abbrev pub rows : List Row
 rows =
     unused
-    ∷ row any (condition ∷ condition ∷ [])  -- 1 And
-    ∷ row any (condition ∷ condition ∷ [])  -- 2 Or
-    ∷ row any (condition ∷ [])  -- 3 Not
-    ∷ row any (within ∷ condition ∷ [])  -- 4 Formerly
-    ∷ row any (within ∷ condition ∷ [])  -- 5 Previous
-    ∷ row any (condition ∷ within ∷ condition ∷ [])  -- 6 Since
-    ∷ row any (span ∷ texts ∷ text ∷ text ∷ fields ∷ [])  -- 7 Predicate
-    ∷ row any (operator ∷ term ∷ term ∷ [])  -- 8 Comparison
-    ∷ row any (slot ∷ type ∷ condition ∷ [])  -- 9 Exists
-    ∷ row any (slot ∷ [])  -- 10 Tp
-    ∷ row any (call ∷ [])  -- 11 Call
-    ∷ row any (sigil ∷ [])  -- 12 SigilRef
-    ∷ row any (span ∷ condition ∷ fields ∷ [])  -- 13 Refine
+    ∷ inner (row any (condition ∷ condition ∷ []))  -- 1 And
+    ∷ inner (row any (condition ∷ condition ∷ []))  -- 2 Or
+    ∷ inner (row any (condition ∷ []))  -- 3 Not
+    ∷ inner (row any (within ∷ condition ∷ []))  -- 4 Formerly
+    ∷ inner (row any (within ∷ condition ∷ []))  -- 5 Previous
+    ∷ inner (row any (condition ∷ within ∷ condition ∷ []))  -- 6 Since
+    ∷ inner (row any (span ∷ texts ∷ text ∷ text ∷ fields ∷ []))  -- 7 Predicate
+    ∷ inner (row any (operator ∷ term ∷ term ∷ []))  -- 8 Comparison
+    ∷ inner (row any (slot ∷ type ∷ condition ∷ []))  -- 9 Exists
+    ∷ inner (row any (slot ∷ []))  -- 10 Tp
+    ∷ inner (row any (call ∷ []))  -- 11 Call
+    ∷ inner (row any (sigil ∷ []))  -- 12 SigilRef
+    ∷ inner (row any (span ∷ condition ∷ fields ∷ []))  -- 13 Refine
     ∷ unused
     ∷ unused
     ∷ unused
     ∷ unused
     ∷ unused
     ∷ unused
-    ∷ row 1 (text ∷ text ∷ [])  -- 20 Entity
-    ∷ row any []  -- 21 Integer
-    ∷ row any []  -- 22 Decimal
-    ∷ row any []  -- 23 String
-    ∷ row 2 []  -- 24 Bool
-    ∷ counts text  -- 25 ContextField
-    ∷ counts text  -- 26 ScopeField
-    ∷ row any []  -- 27 Var
-    ∷ row 1 []  -- 28 Wildcard
-    ∷ counts term  -- 29 Array
-    ∷ row 1 (aggregate ∷ [])  -- 30 Agg
-    ∷ row 3 (term ∷ term ∷ [])  -- 31 Arith
-    ∷ row any []  -- 32 ParamRef
-    ∷ row any []  -- 33 BinderRef
-    ∷ row any (slot ∷ bindings ∷ condition ∷ [])  -- 34 Sum
-    ∷ row any (bindings ∷ condition ∷ [])  -- 35 Count
-    ∷ row any (call ∷ [])  -- 36 aggregate Call
+    ∷ node (row 1 (text ∷ text ∷ []))  -- 20 Entity
+    ∷ node (row any [])  -- 21 Integer
+    ∷ node (long spelled)  -- 22 Decimal
+    ∷ node (long spelled)  -- 23 String
+    ∷ node (row 2 [])  -- 24 Bool
+    ∷ node (counts text)  -- 25 ContextField
+    ∷ node (counts text)  -- 26 ScopeField
+    ∷ node (name spelled)  -- 27 Var
+    ∷ node (row 1 [])  -- 28 Wildcard
+    ∷ inner (counts term)  -- 29 Array
+    ∷ inner (row 1 (aggregate ∷ []))  -- 30 Agg
+    ∷ inner (row 3 (term ∷ term ∷ []))  -- 31 Arith
+    ∷ node spelled  -- 32 ParamRef
+    ∷ node spelled  -- 33 BinderRef
+    ∷ inner (row any (slot ∷ bindings ∷ condition ∷ []))  -- 34 Sum
+    ∷ inner (row any (bindings ∷ condition ∷ []))  -- 35 Count
+    ∷ inner (row any (call ∷ []))  -- 36 aggregate Call
     ∷ unused
     ∷ unused
     ∷ unused
-    ∷ row any []  -- 40 text
+    ∷ spelled  -- 40 text
     ∷ row any []  -- 41 list: what follows is the sort's
     ∷ row any []  -- 42 span
-    ∷ row any []  -- 43 slot Name
-    ∷ row any []  -- 44 slot ParamRef
-    ∷ row any []  -- 45 slot BinderRef
+    ∷ name spelled  -- 43 slot Name
+    ∷ spelled  -- 44 slot ParamRef
+    ∷ spelled  -- 45 slot BinderRef
     ∷ row 1 []  -- 46 type Timepoint
     ∷ counts text  -- 47 type Named
     ∷ row any []  -- 48 seconds
     ∷ row any []  -- 49 minutes
     ∷ row any []  -- 50 hours
     ∷ row any []  -- 51 days
-    ∷ row any []  -- 52 within ParamRef
+    ∷ spelled  -- 52 within ParamRef
     ∷ row 6 []  -- 53 operator
-    ∷ row any (text ∷ arguments ∷ [])  -- 54 call
+    ∷ marked Mark.isCall (row any (text ∷ arguments ∷ []))  -- 54 call
     ∷ row 1 (condition ∷ [])  -- 55 argument: condition
     ∷ row 1 (term ∷ [])  -- 56 argument: term
     ∷ row 1 (interval ∷ [])  -- 57 argument: interval
-    ∷ row any []  -- 58 sigil `?`
-    ∷ row any []  -- 59 sigil `$`
+    ∷ spelled  -- 58 sigil `?`
+    ∷ spelled  -- 59 sigil `$`
     ∷ row any (text ∷ parameters ∷ body ∷ [])  -- 60 definition
     ∷ row 1 []  -- 61 body: Cedar
     ∷ row 1 (condition ∷ [])  -- 62 body: condition
     ∷ row 1 (term ∷ [])  -- 63 body: term
-    ∷ row any (term ∷ [])  -- field
-    ∷ row any (text ∷ [])  -- parameter
-    ∷ row any (type ∷ [])  -- binding
-    ∷ counts text  -- list of texts
-    ∷ counts field  -- of fields
-    ∷ counts binding  -- of bindings
-    ∷ counts argument  -- of arguments
-    ∷ counts parameter  -- of parameters
-    ∷ counts definition  -- of definitions
+    ∷ unused
+    ∷ unused
+    ∷ unused
+    ∷ unused
+    ∷ unused
+    ∷ unused
+    ∷ unused
+    ∷ unused
+    ∷ unused
+    ∷ unused
+    ∷ unused
+    ∷ unused
+    ∷ unused  -- 76
     ∷ []
-
--- the row of a code that stands at a place of a sort
-abbrev pub rowAt : ℕ → ℕ → Row
-rowAt s code = getD rows (pick (ltb s 16) code (s + 48)) unused

@@ -2,5 +2,6 @@
 pub mod Pick
 pub mod Kind
 pub mod Grammar
+pub mod Words
 pub mod Waits
 pub mod Stack

@@ -1,51 +1,12 @@
--- The stack of a scan in memory, and the rows of the grammar as numbers.
+-- The stack of a scan in memory.
 -- Assumes nothing.
-use Prim.Native.Nat.{ℕ, zero, suc, _+_, _-_, _*_, _/_, _%_, _≤_, _<_}
+use Prim.Native.Nat.{ℕ, _+_, _/_, _%_, _≤_, _<_}
 use mathlib.Core.Path.{_≡_}
-use mathlib.Core.List.{List, [], _∷_, _++_, map}
-use mathlib.Core.Bool.{Bool, _&&_}
-use lib.Dec.{leb, ltb, eqb}
-use lib.ListN.{drop, replicate}
-use Rattle.grammar.specs.Grammar.{Sort, sorts, Follows, once, each, Row, rows}
-use Rattle.grammar.specs.Pick.{pick}
-use Rattle.grammar.specs.Waits.{Wait, waits, counted}
-use Rattle.grammar.specs.declared.codes.Row.{Row as RowWord}
+use mathlib.Core.List.{List, [], _∷_, _++_}
+use lib.ListN.{drop}
+use Rattle.grammar.specs.Words.{sortsIn, followsOf}
+use Rattle.grammar.specs.Waits.{Wait, wait, waits, counted}
 use Rattle.grammar.specs.declared.stack.Cell.{Cell}
-
--- the sorts of a word in base 64, the first lowest, and the last of them `more` times more; k digits at the most
-abbrev pub sortsIn : ℕ → ℕ → ℕ → List ℕ
-sortsIn zero w more = []
-sortsIn (suc k) w more = pick (ltb w 64) (w ∷ replicate more w) (w % 64 ∷ sortsIn k (w / 64) more)
-
--- 40 octal and a sort stand for as many of it as the value says
-abbrev pub isEach : ℕ → Bool
-isEach w = leb 32 w && ltb w 64
-
-unfoldable pub followsOf : ℕ → Follows
-followsOf w = pick (eqb w 0) (once []) (pick (isEach w) (each (w - 32)) (once (sortsIn 5 w 0)))
-
--- the table in one list of numbers: a sort, a row
-abbrev pub rangeWord : Sort → ℕ
-rangeWord s = 256 * s .low + s .high
-
-abbrev pub digits : List ℕ → ℕ
-digits [] = 0
-digits (s ∷ ss) = s + 64 * digits ss
-
-abbrev pub followsWord : Follows → ℕ
-followsWord (once ss) = digits ss
-followsWord (each s) = 32 + s
-
-abbrev pub rowWord : Row → ℕ
-rowWord r = 0x40000000 * r .values + followsWord (r .follows)
-
-unfoldable pub grammarWords : List ℕ
-grammarWords = map rangeWord sorts ++ map rowWord rows
-
-pub record IsRow (r : RowWord) (row : Row) : Type 0 where
-  pub values-are : r .values ≡ row .values
-  pub follows-are : followsOf (r .follows) ≡ row .follows
-  pub word-fits : r .follows < 0x40000000
 
 abbrev pub cell : ℕ → ℕ → ℕ → ℕ → Cell
 cell word more nesting calls = record { word = word; more = more; nesting = nesting; calls = calls }
@@ -63,6 +24,10 @@ pub record Fits (c : Cell) : Type 0 where
 -- what a cell waits for
 unfoldable pub waitsOf : Cell → List Wait
 waitsOf c = waits (c .nesting) (c .calls) (sortsIn 5 (c .word) (c .more))
+
+-- what it waits for first
+abbrev pub waitOf : ℕ → Wait
+waitOf w = wait (w % 64) (w / 0x20000000000 % 128) (w / 0x1000000000000 % 8)
 
 -- what the cells from `top` on wait for
 abbrev pub waitsIn : List ℕ → List Wait

@@ -2,12 +2,10 @@
 -- Assumes nothing.
 use Prim.Native.Nat.{ℕ, _+_, min}
 use mathlib.Core.List.{List, [], _∷_}
-use mathlib.Core.Bool.{Bool, _&&_, _||_}
+use mathlib.Core.Bool.{Bool, not, _&&_, _||_}
 use lib.Dec.{leb, ltb, eqb}
-use Rattle.format.specs.Limits.{isNode, isCall, weigh}
-use Rattle.format.specs.Macro.{isCode}
-use Rattle.format.specs.Tape.{longestText}
-use Rattle.grammar.specs.Grammar.{inSort, Follows, once, each, sortsOf, rowAt, parameters}
+use Rattle.grammar.specs.Grammar.{Follows, once, each, sortsOf}
+use Rattle.grammar.specs.Words.{sortAt, rowAt, inSort, isFew, valuesOf, nestingOf, callsOf, followsIn, followsOf, widthOf, longestOf}
 use Rattle.grammar.specs.declared.entry.Head.{Head}
 
 -- a sort that is waited for, below `nesting` nodes and `calls` calls
@@ -23,6 +21,18 @@ abbrev pub waits : ℕ → ℕ → List ℕ → List Wait
 waits nesting calls [] = []
 waits nesting calls (s ∷ ss) = wait s nesting calls ∷ waits nesting calls ss
 
+-- an entry at a place of a sort, with what a table says of the two
+abbrev pub headOf : List ℕ → ℕ → ℕ → ℕ → Head
+headOf g s code value =
+    record {
+      code = code;
+      value = value;
+      text = widthOf (rowAt g code) value;
+      sort = sortAt g s;
+      row = rowAt g code;
+      follows = followsIn (sortAt g s) (rowAt g code);
+    }
+
 -- a value is one of the first n numbers, or n is 0
 abbrev pub valued : ℕ → ℕ → Bool
 valued n v = eqb n 0 || ltb v n
@@ -32,33 +42,36 @@ abbrev pub counted : Follows → ℕ → ℕ
 counted (once ss) v = 0
 counted (each s) v = v
 
--- a row lets an entry stand, with `left` entries behind it and `room` bytes of text left
-abbrev pub fits : ℕ → ℕ → ℕ → Follows → Head → Bool
-fits left room values follows e =
-    valued values (e .value) && (leb (counted follows (e .value)) left && leb (e .text) room)
-
--- an entry may stand at a place of a sort
-abbrev pub accepts : ℕ → ℕ → ℕ → Head → Bool
-accepts left room s e =
-    inSort s (e .code) && fits left room (rowAt s (e .code) .values) (rowAt s (e .code) .follows) e
+-- an entry may stand at its place, with `left` entries behind it and `room` bytes of text left
+abbrev pub accepts : ℕ → ℕ → Head → Bool
+accepts left room e =
+    inSort (e .sort) (e .code)
+    && (valued (valuesOf (e .row)) (e .value) && (leb (counted (followsOf (e .follows)) (e .value)) left && leb (e .text) room))
 
 -- the nesting below an entry; 64 stands for every number from 64 on
-abbrev pub deeper : ℕ → ℕ → ℕ
-deeper n code = min (n + weigh (isNode code)) 64
+abbrev pub deeper : ℕ → Head → ℕ
+deeper n e = min (n + nestingOf (e .row)) 64
 
--- the number of 54s around what follows an entry; 4 stands for every number from 4 on
-abbrev pub enclosed : ℕ → ℕ → ℕ
-enclosed n code = min (n + weigh (isCall code)) 4
+-- the number of calls around what follows an entry; 4 stands for every number from 4 on
+abbrev pub enclosed : ℕ → Head → ℕ
+enclosed n e = min (n + callsOf (e .row)) 4
 
--- an entry passes a largest figure: nesting 64; 16 parameters; a 54 inside the arguments of 3 others; a text, where that is asked
-abbrev pub exceeds : Bool → Wait → Head → Bool
-exceeds limited w e =
-    isNode (e .code) && leb 64 (w .nesting)
-    || (eqb (w .sort) parameters && ltb 16 (e .value)
-    || (isCall (e .code) && leb 4 (w .calls)
-    || limited && ltb (longestText (isCode (22 ∷ 23 ∷ []) (e .code))) (e .text)))
+-- the figures of an input are asked for, and not those of a result: the longest text of a name is not 0
+abbrev pub isLimited : ℕ → Bool
+isLimited longest = not (eqb longest 0)
+
+-- a figure is passed by what adds to it
+abbrev pub passes : ℕ → ℕ → ℕ → Bool
+passes most n more = ltb most (n + more) && ltb 0 more
+
+-- an entry passes a largest figure: nesting 64; a call inside the arguments of 3 others; of an input 16 in a short list, and the longest text
+abbrev pub exceeds : ℕ → Wait → Head → Bool
+exceeds longest w e =
+    passes 64 (w .nesting) (nestingOf (e .row))
+    || (passes 4 (w .calls) (callsOf (e .row))
+    || (isLimited longest && (isFew (e .sort) && ltb 16 (e .value))
+    || isLimited longest && ltb (longestOf longest (e .row)) (e .text)))
 
 -- what is waited for below an entry
 abbrev pub below : Wait → Head → List Wait
-below w e =
-    waits (deeper (w .nesting) (e .code)) (enclosed (w .calls) (e .code)) (sortsOf (rowAt (w .sort) (e .code) .follows) (e .value))
+below w e = waits (deeper (w .nesting) e) (enclosed (w .calls) e) (sortsOf (followsOf (e .follows)) (e .value))

@@ -1,30 +1,40 @@
 // What one entry does to a scan.
-use crate::codes::Row;
 use crate::codes::both;
 use crate::codes::either;
 use crate::codes::in_sort;
 use crate::codes::is_each;
-use crate::kind::is_node;
-use crate::stack::Cell;
 use crate::stack::drop_first;
 use crate::stack::push;
 ghost use mathlib.Core.Path.{_≡_};
-ghost use mathlib.Core.Bool.{_&&_};
-ghost use mathlib.Core.List.{[], _∷_, _++_};
-ghost use Prim.Native.Nat.{_+_, _<_, min};
+ghost use mathlib.Core.Bool.{_&&_, _||_};
+ghost use mathlib.Core.List.{_++_};
+ghost use Prim.Native.Nat.{_+_, _≤_, _<_, min};
+ghost use lib.Dec.{ltb};
 ghost use lib.ListN.{length, drop};
-ghost use Rattle.format.specs.Limits.{weigh};
-ghost use Rattle.format.specs.Macro.{isCode};
-ghost use Rattle.format.specs.Tape.{longestText};
-ghost use Rattle.grammar.specs.Grammar.{inSort, sortsOf};
-ghost use Rattle.grammar.specs.Stack.{Fits, followsOf, grammarWords, Grown, stackOf, waitsOf};
-ghost use Rattle.grammar.specs.Waits.{counted, deeper, enclosed, exceeds, fits, wait, waits};
+ghost use Rattle.grammar.specs.Stack.{cellOf, Grown, stackOf, waitOf, waitsOf};
+ghost use Rattle.grammar.specs.Waits.{accepts, below, counted, exceeds, isLimited, passes};
+ghost use Rattle.grammar.specs.Words.{followsOf, isFew, longestOf, widthOf};
 
-// An entry's code and value, and the length of its text.
+// An entry's code and value and the length of its text, with what a table says of it at a place of a sort: the words of the sort and of
+// the code, and that of what follows.
 pub struct Head {
     pub code: u8,
     pub value: u64,
     pub text: u64,
+    pub sort: u64,
+    pub row: u64,
+    pub follows: u64,
+}
+
+// How many bytes of text an entry takes.
+pub fn width_of(row: u64, value: u64) -> u64
+    ensures { λ r. ⌜ r ≡ widthOf row value ⌝ }
+{
+    if row / 0x2_0000_0000 % 2 == 1 {
+        value
+    } else {
+        0
+    }
 }
 
 // How many entries come behind one by its count.
@@ -34,65 +44,111 @@ fn count_of(follows: u64, value: u64) -> u64
     if is_each(follows) { value } else { 0 }
 }
 
-// Whether an entry may stand at a place of a sort, with `left` entries behind it and `room` bytes of text left.
-pub fn accepts(grammar: &[u64], left: usize, room: usize, sort: u64, row: Row, e: Head) -> bool
-    requires { ⌜ now grammar ≡ grammarWords ⌝ }
-    ensures { λ r. ⌜ r ≡ (inSort sort (e .code) && fits left room (row .values) (followsOf (row .follows)) e) ⌝ }
+// Whether an entry may stand at its place, with `left` entries behind it and `room` bytes of text left.
+pub fn accepts(left: usize, room: usize, e: Head) -> bool
+    ensures { λ r. ⌜ r ≡ accepts left room e ⌝ }
 {
     let value = e.value;
     let text = e.text;
-    let values = row.values;
-    let n = count_of(row.follows, value);
+    let values = e.row / 0x4000_0000 % 8;
+    let n = count_of(e.follows, value);
     let held = both(n <= left as u64, text <= room as u64);
     let valued = both(either(values == 0, value < values), held);
-    both(in_sort(grammar, sort, e.code), valued)
+    both(in_sort(e.sort, e.code), valued)
 }
 
-// The longest text of an input.
-fn longest(code: u8) -> u64
-    ensures { λ r. ⌜ r ≡ longestText (isCode (22 ∷ 23 ∷ []) code) ⌝ }
+// The longest text: `longest` for a name.
+fn longest_of(longest: u64, row: u64) -> u64
+    ensures { λ r. ⌜ r ≡ longestOf longest row ⌝ }
 {
-    match code {
-        22..=23 => 255,
-        _ => 64,
+    if row / 0x8_0000_0000 % 2 == 1 {
+        return longest;
     }
-}
-
-// Whether an entry at a place of a sort passes a largest figure. `limited` asks for the longest text of an input too.
-pub fn exceeds(limited: bool, sort: u64, c: Cell, e: Head) -> bool
-    ensures { λ r. ⌜ r ≡ exceeds limited (wait sort (c .nesting) (c .calls)) e ⌝ }
-{
-    let code = e.code;
-    let text = e.text;
-    let value = e.value;
-    let nesting = c.nesting;
-    let calls = c.calls;
-    let long = both(limited, longest(code) < text);
-    let inside = both(code == 54, 4 <= calls);
-    let listed = both(sort == 23, 16 < value);
-    let deep = both(is_node(code), 64 <= nesting);
-    either(deep, either(listed, either(inside, long)))
-}
-
-// A figure with one more where that counts, up to the most that has to be told apart.
-fn raised(n: u64, counts: bool, most: u64) -> u64
-    requires { ⌜ n < 128 ⌝ }
-    ensures { λ r. ⌜ r ≡ min (n + weigh counts) most ⌝ }
-{
-    if n < most {
-        if counts { n + 1 } else { n }
+    if row / 0x4_0000_0000 % 2 == 1 {
+        255
     } else {
-        most
+        64
     }
 }
 
-// The stack after an entry that stands at the first place of the cell on top of it.
-pub fn advance(stack: &mut [u64], top: usize, c: Cell, e: Head, follows: u64) -> usize
-    requires { ⌜ (0 < top) × (top < length (now stack)) × Fits c × (follows < 0x40000000) × (counted (followsOf follows) (e .value) < 2048) ⌝ }
-    ensures { λ r. ⌜ Grown (top + 1) 2 (now (stack .exit)) r (waits (deeper (c .nesting) (e .code)) (enclosed (c .calls) (e .code)) (sortsOf (followsOf follows) (e .value)) ++ (drop 1 (waitsOf c) ++ stackOf (now (stack .entry)) (top + 1))) ⌝ }
+// Whether a figure is passed by adding to it. Most entries add nothing.
+fn passes(most: u64, n: u64, more: u64) -> bool
+    requires { ⌜ (n < 128) × (more < 4) ⌝ }
+    ensures { λ r. ⌜ r ≡ passes most n more ⌝ }
 {
-    let n = raised(c.nesting, is_node(e.code), 64);
-    let k = raised(c.calls, e.code == 54, 4);
-    let left = drop_first(stack, top, c);
-    push(stack, left, follows, e.value, n, k)
+    if more == 0 {
+        return false;
+    }
+    most < n + more
+}
+
+// Whether an entry is a count of more than 16 in a short list.
+fn too_many(e: Head) -> bool
+    ensures { λ r. ⌜ r ≡ (isFew (e .sort) && ltb 16 (e .value)) ⌝ }
+{
+    if e.sort / 0x4000_0000_0000_0000 % 2 == 1 {
+        return 16 < e.value;
+    }
+    false
+}
+
+// Whether it passes a figure of an input, where `longest`, the longest text of a name, is not 0.
+fn exceeds_input(longest: u64, e: Head) -> bool
+    ensures { λ r. ⌜ r ≡ (isLimited longest && (isFew (e .sort) && ltb 16 (e .value)) || isLimited longest && ltb (longestOf longest (e .row)) (e .text)) ⌝ }
+{
+    if longest == 0 {
+        return false;
+    }
+    if too_many(e) {
+        return true;
+    }
+    if e.text == 0 {
+        return false;
+    }
+    longest_of(longest, e.row) < e.text
+}
+
+// Whether an entry of the cell `w` passes a largest figure.
+pub fn exceeds(longest: u64, w: u64, e: Head) -> bool
+    ensures { λ r. ⌜ r ≡ exceeds longest (waitOf w) e ⌝ }
+{
+    let row = e.row;
+    if passes(64, w / 0x200_0000_0000 % 128, row / 0x10_0000_0000 % 4) {
+        return true;
+    }
+    if passes(4, w / 0x1_0000_0000_0000 % 8, row / 0x40_0000_0000 % 2) {
+        return true;
+    }
+    exceeds_input(longest, e)
+}
+
+// A figure with more on it, up to the most that has to be told apart.
+fn raised(n: u64, more: u64, most: u64) -> u64
+    requires { ⌜ (n < 128) × (more < 4) ⌝ }
+    ensures { λ r. ⌜ r ≡ min (n + more) most ⌝ }
+{
+    if n + more <= most { n + more } else { most }
+}
+
+// What follows an entry that stood at the first place of the cell `w`, on top of a stack that is without it.
+fn bring(stack: &mut [u64], top: usize, w: u64, e: Head) -> usize
+    requires { ⌜ (0 < top) × (top ≤ length (now stack)) × (e .follows < 0x40000000) × (counted (followsOf (e .follows)) (e .value) < 2048) ⌝ }
+    ensures { λ r. ⌜ Grown top 1 (now (stack .exit)) r (below (waitOf w) e ++ stackOf (now (stack .entry)) top) ⌝ }
+{
+    let row = e.row;
+    let n = raised(w / 0x200_0000_0000 % 128, row / 0x10_0000_0000 % 4, 64);
+    let k = raised(w / 0x1_0000_0000_0000 % 8, row / 0x40_0000_0000 % 2, 4);
+    push(stack, top, e.follows, e.value, n, k)
+}
+
+// The stack after an entry that stands at the first place of the cell `w` on top of it. Most entries bring nothing.
+pub fn advance(stack: &mut [u64], top: usize, w: u64, e: Head) -> usize
+    requires { ⌜ (0 < top) × (top < length (now stack)) × (e .follows < 0x40000000) × (counted (followsOf (e .follows)) (e .value) < 2048) ⌝ }
+    ensures { λ r. ⌜ Grown (top + 1) 2 (now (stack .exit)) r (below (waitOf w) e ++ (drop 1 (waitsOf (cellOf w)) ++ stackOf (now (stack .entry)) (top + 1))) ⌝ }
+{
+    let left = drop_first(stack, top, w);
+    if e.follows == 0 {
+        return left;
+    }
+    bring(stack, left, w, e)
 }

@@ -6,7 +6,8 @@ ghost use Prim.Native.Nat.{_+_, _≤_, _<_};
 ghost use lib.ListN.{length, drop};
 ghost use Rattle.grammar.specs.Grammar.{sortsOf};
 ghost use Rattle.grammar.specs.Waits.{waits};
-ghost use Rattle.grammar.specs.Stack.{cellOf, Fits, followsOf, Grown, Room, stackOf, waitsOf};
+ghost use Rattle.grammar.specs.Words.{followsOf};
+ghost use Rattle.grammar.specs.Stack.{cellOf, Fits, Grown, Room, stackOf, waitsOf};
 
 // The sorts of `word`, the first in its lowest two octal digits, and the last of them `more` times more; all below `nesting` nodes and
 // `calls` calls.
@@ -28,15 +29,13 @@ fn pack(c: Cell) -> u64
     word + 0x4000_0000 * more + 0x200_0000_0000 * nesting + 0x1_0000_0000_0000 * calls
 }
 
-pub fn unpack(w: u64) -> Cell
-    ensures { λ r. ⌜ (r ≡ cellOf w) × Fits r ⌝ }
+// One cell more, packed. Returns the new top.
+fn store(stack: &mut [u64], top: usize, w: u64) -> usize
+    requires { ⌜ (0 < top) × (top ≤ length (now stack)) ⌝ }
+    ensures { λ r. ⌜ Grown top 1 (now (stack .exit)) r (waitsOf (cellOf w) ++ stackOf (now (stack .entry)) top) ⌝ }
 {
-    Cell {
-        word: w % 0x4000_0000,
-        more: w / 0x4000_0000 % 2048,
-        nesting: w / 0x200_0000_0000 % 128,
-        calls: w / 0x1_0000_0000_0000 % 8,
-    }
+    stack[top - 1] = w;
+    top - 1
 }
 
 // One cell more. Returns the new top.
@@ -44,42 +43,21 @@ pub fn put(stack: &mut [u64], top: usize, c: Cell) -> usize
     requires { ⌜ (0 < top) × (top ≤ length (now stack)) × Fits c ⌝ }
     ensures { λ r. ⌜ Grown top 1 (now (stack .exit)) r (waitsOf c ++ stackOf (now (stack .entry)) top) ⌝ }
 {
-    stack[top - 1] = pack(c);
-    top - 1
+    store(stack, top, pack(c))
 }
 
-// The stack without the first sort of the cell on top of it.
-pub fn drop_first(stack: &mut [u64], top: usize, c: Cell) -> usize
-    requires { ⌜ (top < length (now stack)) × Fits c ⌝ }
-    ensures { λ r. ⌜ Grown (top + 1) 1 (now (stack .exit)) r (drop 1 (waitsOf c) ++ stackOf (now (stack .entry)) (top + 1)) ⌝ }
+// The stack without the first sort of the cell on top of it, which is `w`: the cell has other sorts, or its last sort once more, or it is
+// used up.
+pub fn drop_first(stack: &mut [u64], top: usize, w: u64) -> usize
+    requires { ⌜ top < length (now stack) ⌝ }
+    ensures { λ r. ⌜ Grown (top + 1) 1 (now (stack .exit)) r (drop 1 (waitsOf (cellOf w)) ++ stackOf (now (stack .entry)) (top + 1)) ⌝ }
 {
-    let word = c.word;
-    let more = c.more;
-    let nesting = c.nesting;
-    let calls = c.calls;
+    let word = w % 0x4000_0000;
     if 64 <= word {
-        return put(
-            stack,
-            top + 1,
-            Cell {
-                word: word / 64,
-                more,
-                nesting,
-                calls,
-            },
-        );
+        return store(stack, top + 1, w - word + word / 64);
     }
-    if 0 < more {
-        return put(
-            stack,
-            top + 1,
-            Cell {
-                word,
-                more: more - 1,
-                nesting,
-                calls,
-            },
-        );
+    if 0 < w / 0x4000_0000 % 2048 {
+        return store(stack, top + 1, w - 0x4000_0000);
     }
     top + 1
 }

@@ -32,11 +32,11 @@ use Rattle.definition.specs.Messages.{
 }
 use Rattle.nodes.specs.Node.{nameAt, spanOf}
 use Rattle.tape.specs.declared.layout.Layout.{Layout}
-use Rattle.pieces.specs.Names.{namesAt}
-use Rattle.place_words.specs.Words.{sigilOf, ofCode}
+use Rattle.message_parts.specs.Names.{namesAt}
+use Rattle.message_places.specs.Words.{sigilOf, ofCode}
 use Rattle.messages.specs.declared.Reason.{Reason}
 use Rattle.messages.specs.declared.Reason.the-variants.{
-  Silent,
+  WithoutMessage,
   Reserved,
   Duplicate,
   Undeclared,
@@ -68,7 +68,7 @@ abbrev pub refusedAt : ℕ → Reason → Refused
 refusedAt span reason = record { span = spanOf span; reason = reason }
 
 abbrev pub numberOf : Reason → ℕ
-numberOf (Silent n) = n
+numberOf (WithoutMessage n) = n
 numberOf (Reserved n) = 10
 numberOf (Duplicate n s) = 11
 numberOf (Undeclared n p k) = 20
@@ -97,7 +97,7 @@ numberOf (NotAPredicate k) = 47
 -- Names of the definition's tape s, laid out as d, and of the call's tape t, laid out as c. The counts of an accepted tape are
 -- far below 2 ^ 32.
 unfoldable pub messageOf : List ℕ → Layout → List ℕ → Layout → Reason → Text
-messageOf s d t c (Silent n) = []
+messageOf s d t c (WithoutMessage n) = []
 messageOf s d t c (Reserved n) = reservedName (nameAt s d n)
 messageOf s d t c (Duplicate n span) = duplicateDefinition (nameAt s d n) (spanStart span)
 messageOf s d t c (Undeclared n params k) = undeclaredParameter (nameAt s d n) (namesAt s d params k)

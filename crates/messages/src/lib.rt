@@ -1,33 +1,33 @@
 // The messages of document 01's refusals, written from the refusal and the tapes that spell its names.
 use buffer::zero_from;
-use call_words::body::duplicate_definition;
-use call_words::body::macro_in_macro;
-use call_words::body::plain_identifier;
-use call_words::body::reserved_name;
-use call_words::body::undeclared_parameter;
-use call_words::call::argument_count;
-use call_words::call::budget_exceeded;
-use call_words::call::cedar_in_condition;
-use call_words::call::cedar_in_value;
-use call_words::call::condition_as_value;
-use call_words::call::unknown_macro;
-use call_words::call::value_as_condition;
+use message_calls::body::duplicate_definition;
+use message_calls::body::macro_in_macro;
+use message_calls::body::plain_identifier;
+use message_calls::body::reserved_name;
+use message_calls::body::undeclared_parameter;
+use message_calls::call::argument_count;
+use message_calls::call::budget_exceeded;
+use message_calls::call::cedar_in_condition;
+use message_calls::call::cedar_in_value;
+use message_calls::call::condition_as_value;
+use message_calls::call::unknown_macro;
+use message_calls::call::value_as_condition;
+use message_places::parameter::binder_as_condition;
+use message_places::parameter::not_a_condition;
+use message_places::parameter::not_a_predicate;
+use message_places::parameter::not_a_term;
+use message_places::parameter::not_an_identifier;
+use message_places::parameter::not_an_interval;
+use message_places::parameter::unbound_parameter;
+use message_places::stray::stray_condition;
+use message_places::stray::stray_field;
+use message_places::stray::stray_operand;
+use message_places::stray::stray_slot;
+use message_places::stray::stray_within;
 use nodes::Name;
 use nodes::Sigil;
 use nodes::Span;
 use nodes::span_of;
-use place_words::parameter::binder_as_condition;
-use place_words::parameter::not_a_condition;
-use place_words::parameter::not_a_predicate;
-use place_words::parameter::not_a_term;
-use place_words::parameter::not_an_identifier;
-use place_words::parameter::not_an_interval;
-use place_words::parameter::unbound_parameter;
-use place_words::stray::stray_condition;
-use place_words::stray::stray_field;
-use place_words::stray::stray_operand;
-use place_words::stray::stray_slot;
-use place_words::stray::stray_within;
 use tape::layout::Layout;
 use tape::layout::Place;
 ghost use mathlib.Core.Path.{_≡_};
@@ -39,7 +39,7 @@ ghost use Rattle.messages.specs.Write.{filled};
 // Why an input is refused. A name is one of the definition's tape (a registry's too), or of the call's (a condition's too).
 pub enum Reason {
     // 1, 2, 3 and 48 say nothing: the number
-    Silent(u32),
+    WithoutMessage(u32),
     // 10, 11: the definition's name; the span of the one before
     Reserved(Name),
     Duplicate(Name, u64),
@@ -95,7 +95,7 @@ pub fn number(reason: Reason) -> u32
     ensures { λ r. ⌜ r ≡ numberOf reason ⌝ }
 {
     match reason {
-        Reason::Silent(n) => n,
+        Reason::WithoutMessage(n) => n,
         Reason::Reserved(_) => 10,
         Reason::Duplicate(_, _) => 11,
         Reason::Undeclared(_, _, _) => 20,
@@ -144,7 +144,7 @@ fn said(s: &[u8], d: Layout, t: &[u8], c: Layout, reason: Reason, m: &mut [u8]) 
     ensures { λ r. ⌜ Written (now (m .entry)) (now (m .exit)) r (messageOf (now (s .entry)) d (now (t .entry)) c reason) ⌝ }
 {
     match reason {
-        Reason::Silent(_) => 0,
+        Reason::WithoutMessage(_) => 0,
         Reason::Reserved(n) => reserved_name(m, s, d, n),
         Reason::Duplicate(n, span) => duplicate_definition(m, s, d, n, span),
         Reason::Undeclared(n, params, count) => undeclared_parameter(m, s, d, n, params, count),

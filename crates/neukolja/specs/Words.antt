@@ -1,4 +1,4 @@
--- An answer as the five words that C is handed, and back.
+-- An answer as the five words that C reads, and back.
 -- Assumes nothing.
 use Prim.Native.Nat.{ℕ}
 use mathlib.Core.List.{List, [], _∷_}
@@ -11,8 +11,8 @@ abbrev pub wordsOf : Answer → List ℕ
 wordsOf r = r .number ∷ r .span .start ∷ r .span .end ∷ r .«message_length» ∷ r .charged ∷ []
 
 -- what C reads from the five words and the three buffers
-abbrev pub handed : (words result work message : List ℕ) → definition.Answer
-handed words result work message =
+abbrev pub wordsWith : (words result work message : List ℕ) → definition.Answer
+wordsWith words result work message =
     record {
       number = getD words 0 0;
       start = getD words 1 0;

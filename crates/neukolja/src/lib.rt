@@ -4,11 +4,11 @@ ghost use mathlib.Core.List.{[]};
 ghost use mathlib.Core.Path.{_≡_};
 ghost use lib.ListN.{length};
 ghost use Rattle.definition.specs.Answers.{checkAnswer, registryAnswer, substituteAnswer, expandAnswer};
-ghost use Rattle.substitution.specs.Ends.{buffers};
-ghost use Rattle.neukolja.specs.Words.{wordsOf, handed};
+ghost use Rattle.answer.specs.Matches.{buffers};
+ghost use Rattle.neukolja.specs.Words.{wordsOf, wordsWith};
 
 // The answer as five words: number, start, end, message length, charged.
-fn hand(r: Answer, words: &mut [u64; 5])
+fn write_words(r: Answer, words: &mut [u64; 5])
     ensures { λ _. ⌜ now (words .exit) ≡ wordsOf r ⌝ }
 {
     let span = r.span;
@@ -23,16 +23,16 @@ fn hand(r: Answer, words: &mut [u64; 5])
 
 #[no_mangle]
 pub extern "C" fn neukolja_check(definition: &[u8], message: &mut [u8], answer: &mut [u64; 5])
-    ensures { λ _. ⌜ handed (now (answer .exit)) [] [] (now (message .exit)) ≡ checkAnswer (length (now (message .entry))) (now (definition .entry)) ⌝ }
+    ensures { λ _. ⌜ wordsWith (now (answer .exit)) [] [] (now (message .exit)) ≡ checkAnswer (length (now (message .entry))) (now (definition .entry)) ⌝ }
 {
-    hand(body_check::check(definition, message), answer);
+    write_words(check_body::check(definition, message), answer);
 }
 
 #[no_mangle]
 pub extern "C" fn neukolja_registry(registry: &[u8], message: &mut [u8], answer: &mut [u64; 5])
-    ensures { λ _. ⌜ handed (now (answer .exit)) [] [] (now (message .exit)) ≡ registryAnswer (length (now (message .entry))) (now (registry .entry)) ⌝ }
+    ensures { λ _. ⌜ wordsWith (now (answer .exit)) [] [] (now (message .exit)) ≡ registryAnswer (length (now (message .entry))) (now (registry .entry)) ⌝ }
 {
-    hand(registry::build(registry, message), answer);
+    write_words(registry::build(registry, message), answer);
 }
 
 #[no_mangle]
@@ -45,9 +45,9 @@ pub extern "C" fn neukolja_substitute<'a>(
     message: &mut [u8],
     answer: &mut [u64; 5],
 )
-    ensures { λ _. ⌜ handed (now (answer .exit)) (now (result .exit)) (now (work .exit)) (now (message .exit)) ≡ substituteAnswer (buffers (length (now (result .entry))) (length (now (work .entry))) (length (now (message .entry)))) limit (now (definition .entry)) (now (call .entry)) ⌝ }
+    ensures { λ _. ⌜ wordsWith (now (answer .exit)) (now (result .exit)) (now (work .exit)) (now (message .exit)) ≡ substituteAnswer (buffers (length (now (result .entry))) (length (now (work .entry))) (length (now (message .entry)))) limit (now (definition .entry)) (now (call .entry)) ⌝ }
 {
-    hand(
+    write_words(
         substitution::substitute(definition, call, limit, result, work, message),
         answer,
     );
@@ -63,9 +63,9 @@ pub extern "C" fn neukolja_expand<'a>(
     message: &mut [u8],
     answer: &mut [u64; 5],
 )
-    ensures { λ _. ⌜ handed (now (answer .exit)) (now (result .exit)) (now (work .exit)) (now (message .exit)) ≡ expandAnswer (buffers (length (now (result .entry))) (length (now (work .entry))) (length (now (message .entry)))) limit (now (registry .entry)) (now (condition .entry)) ⌝ }
+    ensures { λ _. ⌜ wordsWith (now (answer .exit)) (now (result .exit)) (now (work .exit)) (now (message .exit)) ≡ expandAnswer (buffers (length (now (result .entry))) (length (now (work .entry))) (length (now (message .entry)))) limit (now (registry .entry)) (now (condition .entry)) ⌝ }
 {
-    hand(
+    write_words(
         expansion::expand(registry, condition, limit, result, work, message),
         answer,
     );

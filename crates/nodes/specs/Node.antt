@@ -38,6 +38,8 @@ use Rattle.nodes.specs.declared.WithinRead.the-variants as wr
 use Rattle.nodes.specs.declared.Heading.{Heading}
 use Rattle.nodes.specs.declared.HeadingRead.{HeadingRead}
 use Rattle.nodes.specs.declared.HeadingRead.the-variants as hr
+use Rattle.nodes.specs.declared.ParamRead.{ParamRead}
+use Rattle.nodes.specs.declared.ParamRead.the-variants as param
 use Rattle.nodes.specs.declared.ArgNode.the-variants as argument
 use Rattle.nodes.specs.declared.ArgRead.{ArgRead}
 use Rattle.nodes.specs.declared.ArgRead.the-variants as ar
@@ -282,6 +284,12 @@ headingAt s l p code =
     (expectAt s l list 41))
     (expectAt s l name 40))
     (expectAt s l p code)
+
+-- the parameter at a place: its span (42) and its name (40)
+unfoldable pub paramAt : List ℕ → Layout → Place → ParamRead
+paramAt s l p =
+    onValue param.Nothing (λ span at. onValue param.Nothing (λ size next. param.Param (named at size) next) (expectAt s l at 40))
+    (expectAt s l p 42)
 
 abbrev pub noArgument : ArgRead
 noArgument = ar.Refused malformed

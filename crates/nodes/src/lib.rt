@@ -10,7 +10,7 @@ use tape::layout::value_at;
 use tape::scan::Skipped;
 ghost use mathlib.Core.Path.{_≡_};
 ghost use Rattle.definition.specs.Text.{eqText};
-ghost use Rattle.nodes.specs.Node.{spanOf, refusalOf, malformed, hasEntry, hasText, entryAt, expectAt, pastTextsAt, pastHeadingAt, pastTypeAt, conditionAt, predicateAt, comparisonAt, refineAt, sigilAt, named, termAt, pathAt, aggAt, slotAt, withinAt, headingAt, argumentAt, pastParamsAt, bodyAt, nameAt};
+ghost use Rattle.nodes.specs.Node.{spanOf, refusalOf, malformed, hasEntry, hasText, entryAt, expectAt, pastTextsAt, pastHeadingAt, pastTypeAt, conditionAt, predicateAt, comparisonAt, refineAt, sigilAt, named, termAt, pathAt, aggAt, slotAt, withinAt, headingAt, argumentAt, paramAt, pastParamsAt, bodyAt, nameAt};
 
 pub struct Span {
     pub start: u32,
@@ -139,6 +139,12 @@ pub enum ArgNode {
 pub enum ArgRead {
     Node(ArgNode, Place),
     Refused(Refusal),
+}
+
+// A parameter's name, and the place behind the parameter.
+pub enum ParamRead {
+    Param(Name, Place),
+    Nothing,
 }
 
 pub enum BodyNode {
@@ -481,6 +487,24 @@ pub fn read_argument(s: &[u8], l: Layout, p: Place) -> ArgRead
         57 => ArgRead::Node(ArgNode::Within, next),
         _ => ArgRead::Refused(malformed()),
     }
+}
+
+pub fn read_param(s: &[u8], l: Layout, p: Place) -> ParamRead
+    ensures { λ r. ⌜ r ≡ paramAt (now (s .entry)) l p ⌝ }
+{
+    let ValueRead::Value(_, at) = expect(s, l, p, 42) else {
+        return ParamRead::Nothing;
+    };
+    let ValueRead::Value(size, next) = expect(s, l, at, 40) else {
+        return ParamRead::Nothing;
+    };
+    ParamRead::Param(
+        Name {
+            text: at.text,
+            size: size as usize,
+        },
+        next,
+    )
 }
 
 // The place behind `count` parameters.

@@ -1,6 +1,7 @@
 -- The laws that several proofs of the crate cite.
+mod Codes
 mod Tables
 mod Steps
 pub mod Standing
-pub mod Judging
+pub mod Verdicts
 mod Answers

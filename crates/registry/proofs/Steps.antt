@@ -1,139 +1,216 @@
 -- One law for each way a function of the crate returns, from what the code learnt to the definition that the contract cites.
 -- Assumes nothing.
-use Prim.Native.Nat.{ℕ, zero, suc, _+_, _*_, _-_, _≤_, _<_}
+use Prim.Native.Nat.{ℕ, zero, suc, _+_, _*_, _-_, _/_, _%_, _≤_, _<_}
 use native.Mathlib.Omega.{arith}
 use native.Mathlib.Nat.{sub-zero}
 use native.Mathlib.Numerals.{add-one}
 use mathlib.Core.Path.{_≡_, refl, sym, ap, _∙_}
 use mathlib.Core.List.{List, [], _∷_, _++_, append-nil}
 use mathlib.Core.Bool.{Bool, true, false, _||_}
-use lib.ListN.{length, take, drop, length-drop, take-append-drop}
-use lib.Seq.{sets, take-all, drop-drop, append-snoc}
+use lib.Dec.{leb, eqb}
+use lib.ListN.{length, take, drop, getD, length-drop, take-append-drop, drop-of-length-le}
+use lib.Seq.{sets, take-all, take-nil, drop-drop, drop-cons, append-snoc}
+use borrow.Author.Tests.{lt-leb, le-leb, eq-eqb, ne-eqb}
 use Rattle.format.specs.Entry.{Text}
+use Rattle.format.specs.Tape.{isText, textWidth}
 use Rattle.definition.specs.Text.{eqText}
 use Rattle.definition.specs.Check.{contains}
 use Rattle.definition.specs.Registry.{reservedNames}
-use Rattle.nodes.specs.Node.{onPlace, expectAt, headingAt, nameAt}
-use Rattle.tape.specs.Scan.{skipAt}
+use Rattle.tape.specs.Pick.{pick}
+use Rattle.tape.specs.Layouts.{holds, codeAt, valueAt}
+use Rattle.nodes.specs.Node.{onHeading, headingAt, nameAt}
 use Rattle.tape.specs.declared.layout.Layout.{Layout}
 use Rattle.tape.specs.declared.layout.Place.{Place}
+use Rattle.tape.proofs.Runs.{place}
 use Rattle.nodes.specs.declared.Refusal.{Refusal}
-use Rattle.nodes.specs.declared.ValueRead.{ValueRead}
-use Rattle.nodes.specs.declared.ValueRead.the-variants as vr
-use Rattle.nodes.specs.declared.ValueRead.the-variants.{Value}
 use Rattle.nodes.specs.declared.Heading.{Heading}
 use Rattle.nodes.specs.declared.HeadingRead.{HeadingRead}
 use Rattle.nodes.specs.declared.HeadingRead.the-variants as hr
-use Rattle.tape.specs.declared.scan.Skipped.{Skipped}
-use Rattle.tape.specs.declared.scan.Skipped.the-variants.{At, Nowhere}
 use Rattle.messages.specs.Reason.{refusedAt}
 use Rattle.messages.specs.declared.Refused.{Refused as RefusedBy}
-use Rattle.messages.specs.declared.Reason.the-variants.{Silent, Reserved, Duplicate}
+use Rattle.messages.specs.declared.Reason.the-variants.{WithoutMessage, Reserved, Duplicate}
 use Rattle.answer.specs.declared.Verdict.{Verdict}
 use Rattle.answer.specs.declared.Verdict.the-variants.{Passes, Refused}
-use Rattle.registry.specs.Places.{firstPlace, placesIn, defsAt, indexAt, getAt, thenTake, checkAt, buildFromAt, buildAt}
+use Rattle.registry.specs.Places.{Row, origin, firstRow, rowsIn, keyFrom, keyOf, endOf, consIf, keyAt, rowsFrom, indexAt, getAt, andThenIn, checkAt, buildFromAt, buildAt}
 use Rattle.registry.specs.declared.Found.{Found}
 use Rattle.registry.specs.declared.Found.the-variants.{Definition, Nothing}
-use Rattle.registry.proofs.Tables.{table-ends, places-left, no-places, place-read, place-written}
+use Rattle.registry.proofs.Tables.{table-ends, rows-left, no-rows, row-read, row-written}
+
+-- ------------------------------------------------------------------ keys
+
+-- the byte at i, and the rest
+pub key-turn : (name : Text) (h i : ℕ) → i < length name
+    → keyFrom h (drop i name) ≡ keyFrom ((h * 16777619 + getD name i 0) % 4294967296) (drop (i + 1) name)
+unfolding keyFrom
+key-turn name h i k = rw (drop-cons name i 0 k, add-one)
+
+pub key-end : (name : Text) (h i : ℕ) → length name ≤ i → keyFrom h (drop i name) ≡ h
+unfolding keyFrom
+key-end name h i k = rw (drop-of-length-le name {i = i} k)
+
+key-below : (name : Text) (h : ℕ) → h < 4294967296 → keyFrom h name < 4294967296
+unfolding keyFrom
+key-below [] h k = k
+key-below (b ∷ name) h k = key-below name ((h * 16777619 + b) % 4294967296) (omega arith)
+
+-- a key leaves room for an entry's number beside it
+pub key-small : (s : List ℕ) (l : Layout) (p : Place) {key : ℕ} → key ≡ keyAt s l p → key < 4294967296
+unfolding keyAt keyOf
+key-small s l p e = rw e (key-below (nameAt s l (record { text = p .text; size = valueAt s l (p .at + 1) })) 0 (omega arith))
+
+pub key-here : (s : List ℕ) (l : Layout) (p : Place) {k size : ℕ} {u : List ℕ} → size ≡ valueAt s l (p .at + 1)
+    → u ≡ nameAt s l (record { text = p .text; size = size }) → k ≡ keyOf u → k ≡ keyAt s l p
+unfolding keyAt
+key-here s l p e q r = rw (← e, ← q) r
 
 -- ------------------------------------------------------------------ the index
 
-module _ (s : List ℕ) (l : Layout) (p : Place) (n room : ℕ) where
-  none-wanted : n ≤ 0 → defsAt s l n room p ≡ []
-  unfolding defsAt
-  none-wanted h = let e : n ≡ 0 = omega arith in rw e
+module _ (s : List ℕ) (l : Layout) where
+  -- one entry of those that are left
+  module _ (at text : ℕ) {code value width : ℕ} (h : at < l .entries) (c : code ≡ codeAt s l at) (v : value ≡ valueAt s l at)
+      (w : width ≡ textWidth (isText code) value) where
+    here : Row
+    here = record { place = place at text; key = keyAt s l (place at text) }
 
-  one-def : 0 < n → 0 < room → defsAt s l n room p ≡ p ∷ onPlace [] (defsAt s l (n - 1) (room - 1)) (skipAt s l p 14)
-  unfolding defsAt
-  one-def h k =
-      let a : n ≡ suc (n - 1) = omega arith in
-      let b : room ≡ suc (room - 1) = omega arith in
-      ap (λ (i : ℕ). defsAt s l i room p) a ∙ ap (λ (i : ℕ). defsAt s l (suc (n - 1)) i p) b
+    entry-left : rowsFrom s l (l .entries - at) (place at text)
+        ≡ pick (leb (text + width) (l .size)) (consIf (eqb code 60) here (rowsFrom s l (l .entries - (at + 1)) (place (at + 1) (text + width)))) []
+    unfolding rowsFrom here
+    entry-left =
+        let n : l .entries - at ≡ suc (l .entries - (at + 1)) = omega arith in
+        rw (n, ← c, ← v, ← w)
 
-none-held : (s : List ℕ) (l : Layout) (p : Place) (n room : ℕ) → room ≤ 0 → defsAt s l n room p ≡ []
-unfolding defsAt
-none-held s l p zero room h = refl
-none-held s l p (suc n) room h = let e : room ≡ 0 = omega arith in rw e
+    pub entry-long : l .size - text < width → text ≤ l .size → rowsFrom s l (l .entries - at) (place at text) ≡ []
+    entry-long g k = entry-left ∙ rw (lt-leb (text + width) (l .size) (omega arith))
 
-pub index-start : (s : List ℕ) (l : Layout) (p : Place) (table : List ℕ) (n room : ℕ) → placesIn table 0 ++ defsAt s l n (room - 0) p ≡ defsAt s l n room p
-unfolding placesIn
-index-start s l p table n room = ap (λ (k : ℕ). defsAt s l n k p) (sub-zero room)
+    entry-fits : width ≤ l .size - text → text ≤ l .size
+        → rowsFrom s l (l .entries - at) (place at text) ≡ consIf (eqb code 60) here (rowsFrom s l (l .entries - (at + 1)) (place (at + 1) (text + width)))
+    entry-fits g k = entry-left ∙ rw (le-leb (text + width) (l .size) (omega arith))
 
--- the places that are written, and what is left of the index
-module _ (s : List ℕ) (l : Layout) (p : Place) (table : List ℕ) (n left room : ℕ) {whole : List Place}
-    (inv : placesIn table n ++ defsAt s l left (room - n) p ≡ whole) where
-  pub index-done : left ≤ 0 → placesIn table n ≡ whole
-  index-done h =
-      sym (append-nil (placesIn table n)) ∙ sym (ap (λ (ps : List Place). placesIn table n ++ ps) (none-wanted s l p left (room - n) h)) ∙ inv
+    -- the rows that are written, and what is left of the index
+    module _ (table : List ℕ) (n room : ℕ) {whole : List Row}
+        (inv : rowsIn table n ++ take (room - n) (rowsFrom s l (l .entries - at) (place at text)) ≡ whole) where
+      pub index-long : l .size - text < width → text ≤ l .size → rowsIn table n ≡ whole
+      index-long g k =
+          sym (append-nil (rowsIn table n)) ∙ ap (λ (rs : List Row). rowsIn table n ++ rs) (sym (ap (take (room - n)) (entry-long g k) ∙ take-nil (room - n))) ∙ inv
 
-  pub index-full : room ≤ n → placesIn table n ≡ whole
-  index-full h =
-      sym (append-nil (placesIn table n))
-      ∙ sym (ap (λ (ps : List Place). placesIn table n ++ ps) (none-held s l p left (room - n) (omega arith))) ∙ inv
+      module _ (g : width ≤ l .size - text) (k : text ≤ l .size) where
+        -- what is left behind the entry
+        rest : List Row
+        rest = rowsFrom s l (l .entries - (at + 1)) (place (at + 1) (text + width))
 
-  module _ {table′ : List ℕ} {x : Skipped} (h : 0 < left) (k : n < room) (fits : 2 * n + 2 ≤ length table)
-      (w : table′ ≡ sets table (2 * n) (p .at ∷ p .text ∷ [])) (e : x ≡ skipAt s l p 14) where
-    written : placesIn table′ (n + 1) ≡ placesIn table n ++ p ∷ []
-    written = ap (placesIn table′) (add-one n) ∙ ap (λ (t : List ℕ). placesIn t (suc n)) w ∙ place-written n table p fits
+        goes-on : rowsIn table n ++ take (room - n) (consIf (eqb code 60) here rest) ≡ whole
+        unfolding rest
+        goes-on = ap (λ (rs : List Row). rowsIn table n ++ take (room - n) rs) (sym (entry-fits g k)) ∙ inv
 
-    -- what is left goes on with the place that was written
-    goes-on : {y : Skipped} → x ≡ y → placesIn table n ++ p ∷ onPlace [] (defsAt s l (left - 1) (room - n - 1)) y ≡ whole
-    goes-on r =
-        sym (ap (λ (ps : List Place). placesIn table n ++ ps)
-        (one-def s l p left (room - n) h (omega arith) ∙ ap (λ (y : Skipped). p ∷ onPlace [] (defsAt s l (left - 1) (room - n - 1)) y) (sym e ∙ r)))
-        ∙ inv
+        pub index-other : (code ≡ 60 → ⊥)
+            → rowsIn table n ++ take (room - n) (rowsFrom s l (l .entries - (at + 1)) (place (at + 1) (text + width))) ≡ whole
+        unfolding rest
+        index-other o = rw (ne-eqb code 60 o) at goes-on
 
-    pub index-stops : x ≡ Nowhere → placesIn table′ (n + 1) ≡ whole
-    index-stops r = written ∙ goes-on r
+        pub index-full : code ≡ 60 → room ≤ n
+            → rowsIn table n ++ take (room - n) (rowsFrom s l (l .entries - (at + 1)) (place (at + 1) (text + width))) ≡ whole
+        unfolding rest
+        index-full o f =
+            let e : room - n ≡ 0 = omega arith in
+            ap (λ (m : ℕ). rowsIn table n ++ take m rest) e ∙ sym (ap (λ (m : ℕ). rowsIn table n ++ take m (consIf (eqb code 60) here rest)) e) ∙ goes-on
 
-    pub index-more : {next : Place} → x ≡ At next → placesIn table′ (n + 1) ++ defsAt s l (left - 1) (room - (n + 1)) next ≡ whole
-    index-more {next} r =
-        let c : room - (n + 1) ≡ room - n - 1 = omega arith in
-        ap (λ (i : ℕ). placesIn table′ (n + 1) ++ defsAt s l (left - 1) i next) c
-        ∙ ap (λ (ps : List Place). ps ++ defsAt s l (left - 1) (room - n - 1) next) written
-        ∙ append-snoc (placesIn table n) p (defsAt s l (left - 1) (room - n - 1) next)
-        ∙ goes-on r
+        pub index-noted : {table′ : List ℕ} {key : ℕ} → code ≡ 60 → n < room → 2 * n + 2 ≤ length table → at < 2048 → key ≡ keyAt s l (place at text)
+            → table′ ≡ sets table (2 * n) ((key * 2048 + at) ∷ text ∷ [])
+            → rowsIn table′ (n + 1) ++ take (room - (n + 1)) (rowsFrom s l (l .entries - (at + 1)) (place (at + 1) (text + width))) ≡ whole
+        unfolding rest here
+        index-noted {table′} o f fits low y z =
+            let m : room - n ≡ suc (room - (n + 1)) = omega arith in
+            let written : rowsIn table′ (n + 1) ≡ rowsIn table n ++ here ∷ [] =
+            ap (rowsIn table′) (add-one n) ∙ ap (λ (t : List ℕ). rowsIn t (suc n)) z
+            ∙ ap (λ (q : ℕ). rowsIn (sets table (2 * n) ((q * 2048 + at) ∷ text ∷ [])) (suc n)) y
+            ∙ row-written n table here low fits in
+            ap (λ (rs : List Row). rs ++ take (room - (n + 1)) rest) written
+            ∙ append-snoc (rowsIn table n) here (take (room - (n + 1)) rest)
+            ∙ (rw (eq-eqb code 60 o, m) at goes-on)
 
--- the list in front of the definitions
-module _ (s : List ℕ) (l : Layout) (room : ℕ) where
-  pub index-unlisted : (table : List ℕ) {x : ValueRead} → x ≡ expectAt s l (record { at = 0; text = 0 }) 41 → x ≡ vr.Nothing
-      → placesIn table 0 ≡ indexAt s l room
-  unfolding indexAt placesIn
-  index-unlisted table e r = rw (← e, r)
+  pub index-done : (p : Place) (table : List ℕ) (n room at : ℕ) {whole : List Row} → l .entries ≤ at
+      → rowsIn table n ++ take (room - n) (rowsFrom s l (l .entries - at) p) ≡ whole → rowsIn table n ≡ whole
+  unfolding rowsFrom
+  index-done p table n room at h inv =
+      let e : l .entries - at ≡ 0 = omega arith in
+      sym (append-nil (rowsIn table n))
+      ∙ ap (λ (rs : List Row). rowsIn table n ++ rs) (sym (ap (λ (m : ℕ). take (room - n) (rowsFrom s l m p)) e ∙ take-nil (room - n)))
+      ∙ inv
 
-  pub index-listed : {x : ValueRead} {n : ℕ} {first : Place} {ps : List Place} → x ≡ expectAt s l (record { at = 0; text = 0 }) 41 → x ≡ Value n first
-      → ps ≡ defsAt s l n room first → ps ≡ indexAt s l room
+  pub index-start : (table : List ℕ) (room : ℕ)
+      → rowsIn table 0 ++ take (room - 0) (rowsFrom s l (l .entries - 0) origin) ≡ take room (rowsFrom s l (l .entries) origin)
+  unfolding rowsIn
+  index-start table room = rw (sub-zero room, sub-zero (l .entries))
+
+  pub index-held : {b : Bool} {rs : List Row} (room : ℕ) → b ≡ holds s l → b ≡ true → rs ≡ take room (rowsFrom s l (l .entries) origin)
+      → rs ≡ indexAt s l room
   unfolding indexAt
-  index-listed e r h = rw (← e, r) h
+  index-held room e t h = rw (← e, t) h
+
+  pub index-not-held : {b : Bool} (table : List ℕ) (room : ℕ) → b ≡ holds s l → b ≡ false → rowsIn table 0 ≡ indexAt s l room
+  unfolding indexAt rowsIn
+  index-not-held table room e f = rw (← e, f)
 
 -- ------------------------------------------------------------------ the definition of a name
 
--- a table without its first place
+-- a table without its first row
 rest-behind : (rest : List ℕ) → take (length rest - 2) (drop 2 rest) ≡ drop 2 rest
 rest-behind rest = take-all (length rest - 2) (drop 2 rest) (omega (arith, length-drop 2 rest))
 
-module _ (s : List ℕ) (l : Layout) (name : Text) (rest : List ℕ) (left : ℕ) {g : Found} (inv : getAt s l (placesIn rest left) name ≡ g) where
+module _ (l : Layout) (rest : List ℕ) (left : ℕ) where
+  pub end-last : left ≡ 0 → l .entries ≡ endOf l (rowsIn rest left)
+  unfolding endOf
+  end-last h = rw (no-rows rest {n = left} (omega arith))
+
+  pub end-short : length rest < 2 → l .entries ≡ endOf l (rowsIn rest left)
+  unfolding endOf
+  end-short h = rw (table-ends rest left h)
+
+  pub end-next : (left ≡ 0 → ⊥) → 2 ≤ length rest → getD rest 0 0 % 2048 ≡ endOf l (rowsIn rest left)
+  unfolding endOf firstRow
+  end-next h k = let some : 0 < left = not-zero left h in rw (rows-left rest some k)
+    where
+      not-zero : (n : ℕ) → (n ≡ 0 → ⊥) → 0 < n
+      not-zero zero h = absurd (h refl)
+      not-zero (suc n) h = omega arith
+
+module _ (s : List ℕ) (l : Layout) (name : Text) (rest : List ℕ) (left : ℕ) {g : Found} (inv : getAt s l (rowsIn rest left) name ≡ g) where
   pub get-done : left ≤ 0 → Nothing ≡ g
   unfolding getAt
-  get-done h = rw (no-places rest h) at inv
+  get-done h = rw (no-rows rest h) at inv
 
   pub get-short : length rest < 2 → Nothing ≡ g
   unfolding getAt
   get-short h = rw (table-ends rest left h) at inv
 
-  module _ {p : Place} {x : HeadingRead} (h : 0 < left) (k : 2 ≤ length rest) (q : p ≡ firstPlace rest) (e : x ≡ headingAt s l p 60) where
-    pub get-unread : {r : Refusal} → x ≡ hr.Refused r → Nothing ≡ g
+  module _ {key : ℕ} (h : 0 < left) (k : 2 ≤ length rest) (i : key ≡ keyOf name) where
+    -- the first row, and the rest
+    first-left : pick (eqb (firstRow rest .key) key)
+        (onHeading Nothing (λ head params. pick (eqText (nameAt s l (head .name)) name) (Definition head params (endOf l (rowsIn (drop 2 rest) (left - 1)))) (getAt s l (rowsIn (drop 2 rest) (left - 1)) name))
+        (headingAt s l (firstRow rest .place) 60))
+        (getAt s l (rowsIn (drop 2 rest) (left - 1)) name) ≡ g
     unfolding getAt
-    get-unread r = rw (places-left rest h k, ← q, ← e, r) at inv
+    first-left = rw (rows-left rest h k, ← i) at inv
 
-    module _ {head : Heading} {params : Place} {u : List ℕ} {f : Bool} (r : x ≡ hr.Node head params) (v : u ≡ nameAt s l (head .name)) (y : f ≡ eqText u name) where
-      pub get-found : f ≡ true → Definition head params ≡ g
-      unfolding getAt
-      get-found t = rw (places-left rest h k, ← q, ← e, r, ← v, ← y, t) at inv
+    pub get-other : (getD rest 0 0 / 2048 ≡ key → ⊥) → getAt s l (rowsIn (take (length rest - 2) (drop 2 rest)) (left - 1)) name ≡ g
+    unfolding firstRow
+    get-other o = rw (rest-behind rest) (rw (ne-eqb (getD rest 0 0 / 2048) key o) at first-left)
 
-      pub get-next : f ≡ false → getAt s l (placesIn (take (length rest - 2) (drop 2 rest)) (left - 1)) name ≡ g
-      unfolding getAt
-      get-next t = rw (rest-behind rest) (rw (places-left rest h k, ← q, ← e, r, ← v, ← y, t) at inv)
+    module _ {p : Place} {x : HeadingRead} (j : getD rest 0 0 / 2048 ≡ key) (q : p ≡ firstRow rest .place) (e : x ≡ headingAt s l p 60) where
+      same-key : onHeading Nothing (λ head params. pick (eqText (nameAt s l (head .name)) name) (Definition head params (endOf l (rowsIn (drop 2 rest) (left - 1)))) (getAt s l (rowsIn (drop 2 rest) (left - 1)) name)) x ≡ g
+      unfolding firstRow
+      same-key = rw (eq-eqb (getD rest 0 0 / 2048) key j, ← q, ← e) at first-left
+
+      pub get-unread : {r : Refusal} → x ≡ hr.Refused r → Nothing ≡ g
+      get-unread r = rw r at same-key
+
+      module _ {head : Heading} {params : Place} {u : List ℕ} {f : Bool} (r : x ≡ hr.Node head params) (v : u ≡ nameAt s l (head .name)) (y : f ≡ eqText u name) where
+        pub get-found : {end : ℕ} → f ≡ true → end ≡ endOf l (rowsIn (take (length rest - 2) (drop 2 rest)) (left - 1)) → Definition head params end ≡ g
+        get-found t z =
+            ap (Definition head params) (z ∙ ap (λ (t : List ℕ). endOf l (rowsIn t (left - 1))) (rest-behind rest)) ∙ (rw (r, ← v, ← y, t) at same-key)
+
+        pub get-next : f ≡ false → getAt s l (rowsIn (take (length rest - 2) (drop 2 rest)) (left - 1)) name ≡ g
+        get-next t = rw (rest-behind rest) (rw (r, ← v, ← y, t) at same-key)
 
 -- ------------------------------------------------------------------ reserved names and duplicates
 
@@ -172,8 +249,8 @@ module _ (k : ℕ) (xs : List Text) (name : Text) {b : Bool} (e : b ≡ contains
   pub contains-next : {r : Bool} → b ≡ false → r ≡ contains (drop k xs) name → r ≡ contains xs name
   contains-next f h = or-next e f h ∙ sym split
 
-module _ (s : List ℕ) (l : Layout) (seen : List Place) (p : Place) {x : HeadingRead} (e : x ≡ headingAt s l p 60) where
-  pub name-unread : {r : Refusal} {f : RefusedBy} → x ≡ hr.Refused r → f ≡ refusedAt 0 (Silent 2) → Refused f ≡ checkAt s l seen p
+module _ (s : List ℕ) (l : Layout) (seen : List Row) (p : Place) {x : HeadingRead} (e : x ≡ headingAt s l p 60) where
+  pub name-unread : {r : Refusal} {f : RefusedBy} → x ≡ hr.Refused r → f ≡ refusedAt 0 (WithoutMessage 2) → Refused f ≡ checkAt s l seen p
   unfolding checkAt
   name-unread r q = rw (← e, r, q)
 
@@ -183,7 +260,7 @@ module _ (s : List ℕ) (l : Layout) (seen : List Place) (p : Place) {x : Headin
     unfolding checkAt
     name-reserved t q = rw (← e, r, ← v, ← y, t, q)
 
-    pub name-duplicate : {g : Found} {first : Heading} {next : Place} {f : RefusedBy} → b ≡ false → g ≡ getAt s l seen u → g ≡ Definition first next
+    pub name-duplicate : {g : Found} {first : Heading} {next : Place} {end : ℕ} {f : RefusedBy} → b ≡ false → g ≡ getAt s l seen u → g ≡ Definition first next end
         → f ≡ refusedAt (h .span) (Duplicate (h .name) (first .span)) → Refused f ≡ checkAt s l seen p
     unfolding checkAt
     name-duplicate t i j q = rw (← e, r, ← v, ← y, t, ← i, j, q)
@@ -195,38 +272,38 @@ module _ (s : List ℕ) (l : Layout) (seen : List Place) (p : Place) {x : Headin
 -- ------------------------------------------------------------------ the definitions one by one
 
 module _ (s : List ℕ) (l : Layout) (places : List ℕ) (i : ℕ) (rest : List ℕ) (count : ℕ) {v : Verdict}
-    (inv : buildFromAt s l (placesIn places i) (placesIn rest (count - i)) ≡ v) where
+    (inv : buildFromAt s l (rowsIn places i) (rowsIn rest (count - i)) ≡ v) where
   pub build-done : count ≤ i → Passes ≡ v
   unfolding buildFromAt
-  build-done h = rw (no-places rest {n = count - i} (omega arith)) at inv
+  build-done h = rw (no-rows rest {n = count - i} (omega arith)) at inv
 
   pub build-short : length rest < 2 → Passes ≡ v
   unfolding buildFromAt
   build-short h = rw (table-ends rest (count - i) h) at inv
 
-  module _ {p : Place} {w : Verdict} (h : i < count) (k : 2 ≤ length rest) (q : p ≡ firstPlace rest) (e : w ≡ checkAt s l (placesIn places i) p) where
-    onward : thenTake w (buildFromAt s l (placesIn places i ++ firstPlace rest ∷ []) (placesIn (drop 2 rest) (count - i - 1))) ≡ v
+  module _ {p : Place} {w : Verdict} (h : i < count) (k : 2 ≤ length rest) (q : p ≡ firstRow rest .place) (e : w ≡ checkAt s l (rowsIn places i) p) where
+    onward : andThenIn w (buildFromAt s l (rowsIn places i ++ firstRow rest ∷ []) (rowsIn (drop 2 rest) (count - i - 1))) ≡ v
     unfolding buildFromAt
     onward =
-        ap (λ (x : Verdict). thenTake x (buildFromAt s l (placesIn places i ++ firstPlace rest ∷ []) (placesIn (drop 2 rest) (count - i - 1))))
-        (e ∙ ap (checkAt s l (placesIn places i)) q)
-        ∙ sym (ap (buildFromAt s l (placesIn places i)) (places-left rest {n = count - i} (omega arith) k)) ∙ inv
+        ap (λ (x : Verdict). andThenIn x (buildFromAt s l (rowsIn places i ++ firstRow rest ∷ []) (rowsIn (drop 2 rest) (count - i - 1))))
+        (e ∙ ap (checkAt s l (rowsIn places i)) q)
+        ∙ sym (ap (buildFromAt s l (rowsIn places i)) (rows-left rest {n = count - i} (omega arith) k)) ∙ inv
 
     pub build-refused : {f : RefusedBy} → w ≡ Refused f → w ≡ v
     build-refused r = r ∙ (rw r at onward)
 
     pub build-more : w ≡ Passes → rest ≡ drop (2 * i) places → 2 * i + 2 ≤ length places
-        → buildFromAt s l (placesIn places (i + 1)) (placesIn (take (length rest - 2) (drop 2 rest)) (count - (i + 1))) ≡ v
+        → buildFromAt s l (rowsIn places (i + 1)) (rowsIn (take (length rest - 2) (drop 2 rest)) (count - (i + 1))) ≡ v
     build-more r d fits =
         let c : count - (i + 1) ≡ count - i - 1 = omega arith in
-        let one : placesIn places (i + 1) ≡ placesIn places i ++ firstPlace rest ∷ [] =
-        ap (placesIn places) (add-one i) ∙ place-read i places fits ∙ ap (λ (t : List ℕ). placesIn places i ++ firstPlace t ∷ []) (sym d) in
+        let one : rowsIn places (i + 1) ≡ rowsIn places i ++ firstRow rest ∷ [] =
+        ap (rowsIn places) (add-one i) ∙ row-read i places fits ∙ ap (λ (t : List ℕ). rowsIn places i ++ firstRow t ∷ []) (sym d) in
         rw (rest-behind rest, c, one) (rw r at onward)
 
 pub build-start : (s : List ℕ) (l : Layout) (places : List ℕ) (count : ℕ)
-    → buildFromAt s l (placesIn places 0) (placesIn places (count - 0)) ≡ buildAt s l (placesIn places count)
-unfolding buildAt placesIn
-build-start s l places count = ap (λ (k : ℕ). buildFromAt s l [] (placesIn places k)) (sub-zero count)
+    → buildFromAt s l (rowsIn places 0) (rowsIn places (count - 0)) ≡ buildAt s l (rowsIn places count)
+unfolding buildAt rowsIn
+build-start s l places count = ap (λ (k : ℕ). buildFromAt s l [] (rowsIn places k)) (sub-zero count)
 
 -- where the rest of the table starts
 pub table-room : (places : List ℕ) {rest : List ℕ} (i : ℕ) → rest ≡ drop (2 * i) places → 2 ≤ length rest → 2 * i + 2 ≤ length places

@@ -2,14 +2,16 @@
 // The places of the definitions are found once, and a name is looked for among them: no body is scanned again.
 use answer::Answer;
 use answer::Verdict;
-use answer::bare;
-use answer::conclude;
+use answer::answer_verdict;
+use answer::refuse_number;
+use buffer::read_value;
+use grammar::codes::DEFINITIONS;
+use grammar::kind::text_width;
 use messages::Reason;
 use messages::refuse;
 use nodes::Heading;
 use nodes::HeadingRead;
-use nodes::ValueRead;
-use nodes::expect;
+use nodes::Name;
 use nodes::name_at;
 use nodes::read_heading;
 use nodes::same_text;
@@ -17,75 +19,111 @@ use tape::accept::accept;
 use tape::header::Opened;
 use tape::layout::Layout;
 use tape::layout::Place;
-use tape::scan::Skipped;
-use tape::scan::skip;
+use tape::layout::code_at;
+use tape::layout::holds;
+use tape::layout::value_at;
 ghost use mathlib.Core.Path.{_≡_};
 ghost use mathlib.Core.List.{[], _∷_};
-ghost use Prim.Native.Nat.{_+_, _*_, _/_, _≤_};
-ghost use lib.ListN.{length};
+ghost use Prim.Native.Nat.{_+_, _*_, _/_, _≤_, _<_};
+ghost use lib.ListN.{length, take};
 ghost use lib.Seq.{sets};
 ghost use Rattle.definition.specs.Answers.{registryAnswer};
 ghost use Rattle.definition.specs.Check.{contains};
 ghost use Rattle.definition.specs.Registry.{reservedNames};
-ghost use Rattle.answer.specs.Told.{told};
-ghost use Rattle.registry.specs.Places.{firstPlace, placesIn, defsAt, indexAt, getAt, checkAt, buildAt};
+ghost use Rattle.tape.specs.Layouts.{Held};
+ghost use Rattle.answer.specs.Matches.{answerWith};
+ghost use Rattle.registry.specs.Places.{origin, firstRow, rowsIn, keyOf, endOf, keyAt, rowsFrom, indexAt, getAt, checkAt, buildAt};
 
-// A definition that was found: its head, and where its parameters stand.
+// A definition that was found: its head, where its parameters stand, and the entry behind its body.
 pub enum Found {
-    Definition(Heading, Place),
+    Definition(Heading, Place, usize),
     Nothing,
 }
 
-// Writes a place's two numbers into the table.
-fn put_place(places: &mut [usize], k: usize, p: Place)
-    requires { ⌜ k + 2 ≤ length (now places) ⌝ }
-    ensures { λ _. ⌜ now (places .exit) ≡ sets (now (places .entry)) k (p .at ∷ p .text ∷ []) ⌝ }
+// The key of a name. Equal names have equal keys, so that texts are compared only where keys are equal.
+fn key_of(name: &[u8]) -> usize
+    ensures { λ r. ⌜ r ≡ keyOf (now (name .entry)) ⌝ }
 {
-    places[k] = p.at;
+    let mut h: usize = 0;
+    for i in 0..name.len() {
+        h = (h * 16777619 + name[i] as usize) % 4294967296;
+    }
+    h
+}
+
+// The key of the name of the definition at a place. The name stands in the entry behind the 60, which has no text.
+fn key_at(s: &[u8], l: Layout, p: Place) -> usize
+    requires { ⌜ l .values + 8 * (p .at + 1) ≤ length (now s) ⌝ }
+    ensures { λ r. ⌜ r ≡ keyAt (now (s .entry)) l p ⌝ }
+{
+    let start = l.values;
+    let size = read_value(s, start + 8 * (p.at + 1));
+    let name = Name {
+        text: p.text,
+        size: size as usize,
+    };
+    key_of(name_at(s, l, name))
+}
+
+// Writes a row of the table: a key and the entry of a place in one number, and where the place's text starts.
+fn put_row(places: &mut [usize], k: usize, p: Place, key: usize)
+    requires { ⌜ (k + 2 ≤ length (now places)) × (p .at < 2048) × (key < 4294967296) ⌝ }
+    ensures { λ _. ⌜ now (places .exit) ≡ sets (now (places .entry)) k ((key * 2048 + p .at) ∷ p .text ∷ []) ⌝ }
+{
+    places[k] = key * 2048 + p.at;
     places[k + 1] = p.text;
 }
 
 // The first place of a table, or of the rest of one.
 fn first_place(places: &[usize]) -> Place
     requires { ⌜ 2 ≤ length (now places) ⌝ }
-    ensures { λ r. ⌜ r ≡ firstPlace (now (places .entry)) ⌝ }
+    ensures { λ r. ⌜ r ≡ firstRow (now (places .entry)) .place ⌝ }
 {
     Place {
-        at: places[0],
+        at: places[0] % 2048,
         text: places[1],
     }
 }
 
-// The places of `count` definitions, as many as the table holds, and their number.
-fn index_from(s: &[u8], l: Layout, first: Place, count: u64, places: &mut [usize]) -> usize
-    ensures { λ r. ⌜ placesIn (now (places .exit)) r ≡ defsAt (now (s .entry)) l count (length (now (places .entry)) / 2) first ⌝ }
+// The rows of the entries with the code 60, as many as the table holds, and their number.
+fn index_from(s: &[u8], l: Layout, places: &mut [usize]) -> usize
+    requires { ⌜ Held (now s) l ⌝ }
+    ensures { λ r. ⌜ rowsIn (now (places .exit)) r ≡ take (length (now (places .entry)) / 2) (rowsFrom (now (s .entry)) l (l .entries) origin) ⌝ }
 {
+    let room = places.len() / 2;
+    let entries = l.entries;
+    let size = l.size;
     let mut n: usize = 0;
-    let mut p = first;
-    let mut left = count;
-    while 0 < left {
-        if places.len() / 2 <= n {
+    let mut at: usize = 0;
+    let mut text: usize = 0;
+    while at < entries {
+        let p = Place { at, text };
+        let code = code_at(s, l, at);
+        let width = text_width(code, value_at(s, l, at));
+        if ((size - text) as u64) < width {
             return n;
         }
-        put_place(places, 2 * n, p);
-        n += 1;
-        let Skipped::At(next) = skip(s, l, p, 14) else {
-            return n;
-        };
-        p = next;
-        left = left - 1;
+        at += 1;
+        text += width as usize;
+        if code == 60 {
+            if n < room {
+                let key = key_at(s, l, p);
+                put_row(places, 2 * n, p, key);
+                n += 1;
+            }
+        }
     }
     n
 }
 
-// The places of a registry's definitions in the table, two numbers for each, and how many there are.
+// The rows of a registry's definitions in the table, two numbers for each, and how many there are. A 60 stands nowhere else.
 pub fn index(s: &[u8], l: Layout, places: &mut [usize]) -> usize
-    ensures { λ r. ⌜ placesIn (now (places .exit)) r ≡ indexAt (now (s .entry)) l (length (now (places .entry)) / 2) ⌝ }
+    ensures { λ r. ⌜ rowsIn (now (places .exit)) r ≡ indexAt (now (s .entry)) l (length (now (places .entry)) / 2) ⌝ }
 {
-    let ValueRead::Value(count, first) = expect(s, l, Place { at: 0, text: 0 }, 41) else {
+    if !holds(s, l) {
         return 0;
-    };
-    index_from(s, l, first, count, places)
+    }
+    index_from(s, l, places)
 }
 
 // Whether a name is one of four.
@@ -120,12 +158,12 @@ fn is_reserved(name: &[u8]) -> bool
     is_one_of(b"previous", b"since", b"true", b"false", name)
 }
 
-// The name of the definition at a place, against the reserved names and those of the first `count` definitions.
+// The name of the definition at a place, against the reserved names and those of the first `count` rows.
 fn check_name(s: &[u8], l: Layout, places: &[usize], count: usize, p: Place) -> Verdict
-    ensures { λ r. ⌜ r ≡ checkAt (now (s .entry)) l (placesIn (now (places .entry)) count) p ⌝ }
+    ensures { λ r. ⌜ r ≡ checkAt (now (s .entry)) l (rowsIn (now (places .entry)) count) p ⌝ }
 {
     let HeadingRead::Node(h, _) = read_heading(s, l, p, 60) else {
-        return Verdict::Refused(refuse(0, Reason::Silent(2)));
+        return Verdict::Refused(refuse(0, Reason::WithoutMessage(2)));
     };
     let span = h.span;
     let named = h.name;
@@ -134,16 +172,16 @@ fn check_name(s: &[u8], l: Layout, places: &[usize], count: usize, p: Place) -> 
         return Verdict::Refused(refuse(span, Reason::Reserved(named)));
     }
     match get(s, l, places, count, name) {
-        Found::Definition(first, _) => {
+        Found::Definition(first, _, _) => {
             Verdict::Refused(refuse(span, Reason::Duplicate(named, first.span)))
         }
         Found::Nothing => Verdict::Passes,
     }
 }
 
-// `Registry::build` over the first `count` places of a table.
-pub fn build_index(s: &[u8], l: Layout, places: &[usize], count: usize) -> Verdict
-    ensures { λ r. ⌜ r ≡ buildAt (now (s .entry)) l (placesIn (now (places .entry)) count) ⌝ }
+// `Registry::build` over the first `count` rows of a table.
+pub fn check_names(s: &[u8], l: Layout, places: &[usize], count: usize) -> Verdict
+    ensures { λ r. ⌜ r ≡ buildAt (now (s .entry)) l (rowsIn (now (places .entry)) count) ⌝ }
 {
     let mut rest = places;
     let mut i: usize = 0;
@@ -162,11 +200,11 @@ pub fn build_index(s: &[u8], l: Layout, places: &[usize], count: usize) -> Verdi
 }
 
 // The names of a registry, with a table at hand.
-fn check_names(s: &[u8], l: Layout, places: &mut [usize]) -> Verdict
+fn check_with_table(s: &[u8], l: Layout, places: &mut [usize]) -> Verdict
     ensures { λ r. ⌜ r ≡ buildAt (now (s .entry)) l (indexAt (now (s .entry)) l (length (now (places .entry)) / 2)) ⌝ }
 {
     let count = index(s, l, places);
-    build_index(s, l, places, count)
+    check_names(s, l, places, count)
 }
 
 // A tape has 1,024 entries at the most, and a definition four at the least: 255 definitions.
@@ -174,40 +212,57 @@ fn check_registry(s: &[u8], l: Layout) -> Verdict
     ensures { λ r. ⌜ r ≡ buildAt (now (s .entry)) l (indexAt (now (s .entry)) l 255) ⌝ }
 {
     let mut places = [0usize; 510];
-    check_names(s, l, &mut places)
+    check_with_table(s, l, &mut places)
 }
 
 // The operation: 1 for a message buffer below 2,048 bytes, then the tape, then the names.
 pub fn build(registry: &[u8], message: &mut [u8]) -> Answer
-    ensures { λ r. ⌜ told r [] [] (now (message .exit)) ≡ registryAnswer (length (now (message .entry))) (now (registry .entry)) ⌝ }
+    ensures { λ r. ⌜ answerWith r [] [] (now (message .exit)) ≡ registryAnswer (length (now (message .entry))) (now (registry .entry)) ⌝ }
 {
     if message.len() < 2048 {
-        return bare(1, 0, message);
+        return refuse_number(1, message);
     }
-    match accept(registry, 24) {
-        Opened::Refused(n) => bare(n, 0, message),
-        Opened::Tape(l) => conclude(registry, l, check_registry(registry, l), message),
+    match accept(registry, DEFINITIONS) {
+        Opened::Refused(n) => refuse_number(n, message),
+        Opened::Tape(l) => answer_verdict(registry, l, check_registry(registry, l), message),
     }
 }
 
-// `Registry::get`: the first definition of a name among the first `count`.
-pub fn get(s: &[u8], l: Layout, places: &[usize], count: usize, name: &[u8]) -> Found
-    ensures { λ r. ⌜ r ≡ getAt (now (s .entry)) l (placesIn (now (places .entry)) count) (now (name .entry)) ⌝ }
+// A definition ends where the next row's begins, and the last one where the entries end.
+fn end_of(l: Layout, rest: &[usize], left: usize) -> usize
+    ensures { λ r. ⌜ r ≡ endOf l (rowsIn (now (rest .entry)) left) ⌝ }
 {
+    if left == 0 {
+        return l.entries;
+    }
+    if rest.len() < 2 {
+        return l.entries;
+    }
+    rest[0] % 2048
+}
+
+// `Registry::get`: the first definition of a name among the first `count`. A heading is read only where the key is the name's.
+pub fn get(s: &[u8], l: Layout, places: &[usize], count: usize, name: &[u8]) -> Found
+    ensures { λ r. ⌜ r ≡ getAt (now (s .entry)) l (rowsIn (now (places .entry)) count) (now (name .entry)) ⌝ }
+{
+    let key = key_of(name);
     let mut rest = places;
     let mut left = count;
     while 0 < left {
         if rest.len() < 2 {
             return Found::Nothing;
         }
-        let HeadingRead::Node(h, params) = read_heading(s, l, first_place(rest), 60) else {
-            return Found::Nothing;
-        };
-        if same_text(name_at(s, l, h.name), name) {
-            return Found::Definition(h, params);
-        }
+        let row = rest;
         rest = &rest[2..];
         left = left - 1;
+        if row[0] / 2048 == key {
+            let HeadingRead::Node(h, params) = read_heading(s, l, first_place(row), 60) else {
+                return Found::Nothing;
+            };
+            if same_text(name_at(s, l, h.name), name) {
+                return Found::Definition(h, params, end_of(l, rest, left));
+            }
+        }
     }
     Found::Nothing
 }

@@ -7,7 +7,7 @@ use mathlib.Core.List.{List}
 use Rattle.definition.specs.Answers.{Answer, checkAnswer}
 use Rattle.definition.specs.Demand3.{Passes, SafeAnswer}
 use Rattle.definition.proofs.Demand3.{demand3-on-tapes}
-use Rattle.answer.specs.Told.{told}
+use Rattle.answer.specs.Matches.{answerWith}
 use Rattle.substitution.specs.Demand3.{Passed, Demand3Returned}
 
 -- the check's answer has the number that was returned
@@ -25,6 +25,6 @@ passes {definition} p =
 
 pub demand3-returned : Demand3Returned
 demand3-returned b limit definition input def call r result work message tapes p q met =
-    let safe : SafeAnswer b (told r result work message) =
+    let safe : SafeAnswer b (answerWith r result work message) =
     subst (SafeAnswer b) (sym met) (demand3-on-tapes b limit definition input def call tapes (passes p) q) in
     record { never-48 = safe .never-48; never-41 = safe .never-41; nothing-left = safe .nothing-left }

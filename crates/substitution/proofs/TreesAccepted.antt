@@ -2,7 +2,7 @@
 -- Assumes nothing.
 use Prim.Native.Nat.{ℕ, _≤_}
 use native.Mathlib.Omega.{arith}
-use mathlib.Core.Path.{_≡_, refl}
+use mathlib.Core.Path.{_≡_, refl, ap}
 use mathlib.Core.Logic.{_≢_, _⊎_, inl, inr}
 use mathlib.Core.List.{List, []}
 use mathlib.Core.Bool.{true}
@@ -28,12 +28,12 @@ use Rattle.tape.specs.declared.layout.Place.{Place}
 use Rattle.tape.proofs.Located.{Inside, accepted-inside}
 use Rattle.tape.proofs.Roots.{Accepted, call-root, definition-root, few-params, small-nesting}
 use Rattle.area.specs.Area.{Area, fitsArea}
-use Rattle.arguments.specs.Output.{Progress}
-use Rattle.parameters.specs.Parameters.{Tapes}
-use Rattle.substitution.specs.Ends.{Comes}
-use Rattle.front.specs.Front.{origin, tapesIn}
-use Rattle.parameters.proofs.TreesGives.{Gives, gives, refuses, AllDone, all-bind, all-map, all-of}
-use Rattle.front.proofs.TreesFront.{small-fits, limited, tapes-cedar, cedar-says, tapes-gives}
+use Rattle.walk_state.specs.Writing.{Progress}
+use Rattle.subst_places.specs.Parameters.{Tapes}
+use Rattle.answer.specs.Matches.{OutcomeMatches}
+use Rattle.subst_call.specs.Front.{origin, tapesIn}
+use Rattle.subst_places.proofs.TreesWalk.{WalkMatches, writes, refuses, AllDone, all-bind, all-map, all-of}
+use Rattle.subst_call.proofs.TreesFront.{small-fits, limited, tapes-cedar, cedar-refusal-matches, tapes-matches}
 
 -- ------------------------------------------------------------------ a result fits
 
@@ -68,12 +68,12 @@ is-cedar MacroBody.Cedar = inl refl
 is-cedar (MacroBody.TemporalCondition c) = inr λ e. let z : _≡_ {A = ℕ} 0 1 = cc in omega arith
 is-cedar (MacroBody.TemporalValue t) = inr λ e. let z : _≡_ {A = ℕ} 0 1 = cc in omega arith
 
-pub substitution-comes : (limit : ℕ) {def call : List ℕ} {l c : Layout} (dm : MacroDef) (cl : Call) → Accepted definitionRoot def l dm
+pub substitution-matches : (limit : ℕ) {def call : List ℕ} {l c : Layout} (dm : MacroDef) (cl : Call) → Accepted definitionRoot def l dm
     → Accepted callRoot call c cl
     → (bytes : List ℕ) → 12288 ≤ length bytes
-    → let X : Progress = tapesIn def l call c limit bytes in Comes def l call c (X .walk) (X .bytes) (substitute limit dm cl)
-unfolding definitionRoot callRoot substitute substituteBody Comes openOutcome
-substitution-comes limit {def} {call} {l} {c} dm (Call.MacroCall span name args) h g bytes room = by-kind (is-cedar (dm .body))
+    → let X : Progress = tapesIn def l call c limit bytes in OutcomeMatches def l call c (X .walk) (X .bytes) (substitute limit dm cl)
+unfolding definitionRoot callRoot substitute substituteBody OutcomeMatches openOutcome
+substitution-matches limit {def} {call} {l} {c} dm (Call.MacroCall span name args) h g bytes room = by-kind (is-cedar (dm .body))
   where
     d : Inside def l origin (flatDef dm)
     d = accepted-inside definition-root h
@@ -81,15 +81,18 @@ substitution-comes limit {def} {call} {l} {c} dm (Call.MacroCall span name args)
     i : Inside call c origin (flatCall (Call.MacroCall span name args))
     i = accepted-inside call-root g
 
+    whole : l .entries ≡ length (flatDef dm)
+    whole = ap (λ (m : Layout). m .entries) (h .layout-is)
+
     go : {T : Tapes} {P : Area} {X : Progress} {end : Place} (o : Outcome Tree) → substitute limit dm (Call.MacroCall span name args) ≡ o
-        → Gives T flatTree P [] X end o → Comes (T .definition) (T .maps .definition) call c (X .walk) (X .bytes) o
-    go o e (gives Q x w v) = rw x (refl, w .out, all-of (Fits limit dm) (body-fits limit dm (dm .body) (Call.MacroCall span name args)) e)
-    go o e (refuses after x tells v) = rw x (refl, tells call c)
+        → WalkMatches T flatTree P [] X end o → OutcomeMatches (T .definition) (T .maps .definition) call c (X .walk) (X .bytes) o
+    go o e (writes Q x w v) = rw x (refl, w .out, all-of (Fits limit dm) (body-fits limit dm (dm .body) (Call.MacroCall span name args)) e)
+    go o e (refuses after x same v) = rw x (refl, same call c)
 
     by-kind : (dm .body ≡ MacroBody.Cedar) ⊎ (dm .body ≢ MacroBody.Cedar)
-        → Comes def l call c (tapesIn def l call c limit bytes .walk) (tapesIn def l call c limit bytes .bytes)
+        → OutcomeMatches def l call c (tapesIn def l call c limit bytes .walk) (tapesIn def l call c limit bytes .bytes)
         (substitute limit dm (Call.MacroCall span name args))
-    by-kind (inl e) = rw (tapes-cedar dm span name args limit d i bytes e, e) (refl, cedar-says dm span name args limit d i)
+    by-kind (inl e) = rw (tapes-cedar dm span name args limit d i whole bytes e, e) (refl, cedar-refusal-matches dm span name args limit d i whole)
     by-kind (inr n) =
         go (substitute limit dm (Call.MacroCall span name args)) refl
-        (tapes-gives dm span name args limit d i n (few-params dm (h .small)) (small-nesting dm (h .small)) bytes room)
+        (tapes-matches dm span name args limit d i whole n (few-params dm (h .small)) (small-nesting dm (h .small)) bytes room)

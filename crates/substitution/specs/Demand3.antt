@@ -12,7 +12,7 @@ use Rattle.format.specs.Flat.{flatTree}
 use Rattle.format.specs.Macro.{holdsMacro}
 use Rattle.definition.specs.Answers.{Buffers, padded, checkAnswer, substituteAnswer}
 use Rattle.definition.specs.Demand3.{RightCall, OnTapes}
-use Rattle.answer.specs.Told.{told}
+use Rattle.answer.specs.Matches.{answerWith}
 use Rattle.answer.specs.declared.Answer.{Answer}
 
 -- `check` met its contract with a message buffer that was long enough, and returned neither 20, 21 nor 22
@@ -20,7 +20,7 @@ pub record Passed (definition : List ℕ) : Type 0 where
   pub returned : Answer
   pub messageLength : ℕ
   pub message : List ℕ
-  pub met : told returned [] [] message ≡ checkAnswer messageLength definition
+  pub met : answerWith returned [] [] message ≡ checkAnswer messageLength definition
   pub long-enough : 2048 ≤ messageLength
   pub no-20 : returned .number ≢ 20
   pub no-21 : returned .number ≢ 21
@@ -38,5 +38,5 @@ abbrev pub Demand3Returned : Type 0
 Demand3Returned =
     (b : Buffers) (limit : ℕ) (definition input : List ℕ) (def : MacroDef) (call : Call) (r : Answer) (result work message : List ℕ)
     → OnTapes definition input def call → Passed definition → RightCall def call
-    → told r result work message ≡ substituteAnswer b limit definition input
+    → answerWith r result work message ≡ substituteAnswer b limit definition input
     → SafeReturn (b .resultLength) r result

@@ -1,3 +1,2 @@
 -- What the contracts of the crate cite.
 pub mod Demand3
-pub mod Ends

@@ -1,4 +1,5 @@
--- Acceptance is reading: what the scan of a slice answers is what format's `read` gives, for every list of bytes.
+-- Acceptance is reading, by any table that is well made: what the scan of a slice answers is what format's `read` gives, for every list of
+-- bytes.
 -- Assumes nothing.
 use Prim.Native.Nat.{ℕ, _+_, _*_, _≤_, _<_}
 use mathlib.Core.Path.{_≡_, refl, ap, sym, _∙_}
@@ -12,17 +13,19 @@ use lib.Dec.{T, leb, eqb, leb→le, le→leb, eqb→eq}
 use lib.ListN.{length, take, drop, length-drop, length-append}
 use lib.Seq.{drop-drop}
 use Rattle.format.specs.Entry.{Entry, textOf}
-use Rattle.format.specs.Limits.{isNode, isCall, fitsSizes}
+use Rattle.format.specs.Limits.{fitsSizes}
 use Rattle.format.specs.Build.{Stack, build}
-use Rattle.format.specs.Tape.{Reading, split, printable, readText, readSections, readSizes, readTape, Root, shortTexts, readLimits, readRoot, readStack, readTree, read}
+use Rattle.format.specs.Tape.{Reading, split, printable, readText, readSections, readSizes, readTape, Root, readLimits, readRoot, readStack, readTree, read, Bytes}
+use Rattle.format.proofs.Accepted.{Values64}
 use Rattle.format.proofs.Builds.{Rooted}
 use Rattle.format.proofs.Encodes.{WellTexted}
 use Rattle.format.proofs.Spells.{Spells, s-at-root, build-spells}
-use Rattle.tape.specs.Accept.{judged, acceptIn, afterOpen, acceptOf}
+use Rattle.tape.specs.Accept.{judged, acceptIn, afterOpen, acceptBy}
 use Rattle.tape.specs.Header.{entriesOf, sizeOf}
 use Rattle.tape.specs.Layouts.{tapeLayout, entriesAt}
 use Rattle.tape.specs.Pick.{pick}
-use Rattle.grammar.specs.Waits.{wait}
+use Rattle.grammar.specs.Waits.{wait, isLimited}
+use Rattle.grammar.proofs.Marks.{Table}
 use Rattle.tape.specs.Scan.{scanOf, starts, scanAt}
 use Rattle.tape.specs.declared.header.Opened.{Opened}
 use Rattle.tape.specs.declared.header.Opened.the-variants.{Tape, Refused}
@@ -31,41 +34,47 @@ use Rattle.tape.specs.declared.layout.Place.{Place}
 use Rattle.tape.specs.declared.scan.Scanned.{Scanned}
 use Rattle.tape.specs.declared.scan.Scanned.the-variants.{Ends, Malformed}
 use Rattle.tape.proofs.Holding.{starting}
-use Rattle.tape.proofs.Passing.{Passes, Keeps, reported}
-use Rattle.tape.proofs.Places.{widthsOf, widths-texted, entries-texted, split-entries, eq→eqb}
+use Rattle.tape.proofs.Found.{Language, found, ends-text}
+use Rattle.tape.proofs.Passing.{PassesBy, Keeps, shortIn, reported}
+use Rattle.tape.proofs.Places.{widthsOf, widths-texted, entries-texted, split-entries, values-64, eq→eqb}
 use Rattle.format.proofs.Tests.{and-left, and-right, and-both, is-true, from-true, same-test}
 use Rattle.tape.proofs.Turns.{length-entries}
-use Rattle.tape.proofs.Typed.{Typed, flatAt, found, ends-text}
+use Rattle.tape.proofs.Typed.{temporal-trees}
 
 -- What a root of format has to do with a sort: its trees are those of the sort, and its limits are those of the scan.
-pub record RootOf {A : Type 0} (root : Root A) (sort : ℕ) : Type 0 where
-  pub is-sort : sort < 25
-  pub tree : Typed sort → A
-  pub spelled : (x : Typed sort) → root .flat (tree x) ≡ flatAt sort x
+pub record RootBy {t : Table} (trees : Language t) (longest : ℕ) {A : Type 0} (root : Root A) (sort : ℕ) : Type 0 where
+  pub is-sort : sort < 32
+  pub is-limited : isLimited longest ≡ true
+  pub tree : trees .Tree sort → A
+  pub spelled : (x : trees .Tree sort) → root .flat (tree x) ≡ trees .spell sort x
   pub sound : Spells (root .flat) [] (root .reader)
   pub rooted : (a : A) → Rooted root a
   pub deep : A → (ℕ → Bool) → ℕ
   pub listed : A → Bool
-  pub passes : (a : A) → Passes (sort ∷ []) (root .flat a) (deep a) (listed a)
-  pub short : (es : List Entry) → root .texts es ≡ shortTexts es
-  pub limits : (a : A) → (leb (deep a isNode) 64 && (leb (deep a isCall) 4 && listed a)) ≡ root .small a
+  pub passes : (a : A) → PassesBy t (sort ∷ []) (root .flat a) (deep a) (listed a)
+  pub short : (es : List Entry) → shortIn (t .words) longest es ≡ root .texts es
+  pub limits : (a : A) → (leb (deep a (t .nodes)) 64 && (leb (deep a (t .calls)) 4 && listed a)) ≡ root .small a
+
+-- by the table of document 01, where 64 bytes of text are the most
+abbrev pub RootOf : {A : Type 0} → Root A → ℕ → Type 0
+RootOf root sort = RootBy temporal-trees 64 root sort
 
 -- ------------------------------------------------------------------ the tree of some entries
 
 -- what is read from entries: 2 where they spell no tree, and else whether it keeps to the limits
 data Parsed {A : Type 0} (root : Root A) (es : List Entry) : Reading A → Type 0 where
   no-tree : ((a : A) → root .flat a ≡ es → ⊥) → Parsed root es Reading.malformed
-  a-tree : (a : A) → root .flat a ≡ es → Parsed root es (readLimits (shortTexts es && root .small a) a)
+  a-tree : (a : A) → root .flat a ≡ es → Parsed root es (readLimits (root .texts es && root .small a) a)
 
--- What an accepted slice holds: the entries of the tree, its text printable, its sizes and its tree within the limits.
+-- What an accepted slice holds: the tree's entries, their values 64 bits each, its text printable, its sizes and its tree within the limits.
 pub record Holds {A : Type 0} (root : Root A) (s : List ℕ) (a : A) : Type 0 where
-  pub entries-are : root .flat a ≡ entriesAt s (tapeLayout (entriesOf s) (sizeOf s)) 0 0 (entriesOf s)
+  pub values-are : Bytes s → Values64 (root .flat a)
   pub entries-count : length (root .flat a) ≡ entriesOf s
   pub text-count : length (textOf (root .flat a)) ≡ sizeOf s
   pub sized : length s ≡ 8 + 9 * entriesOf s + sizeOf s
   pub fitting : T (fitsSizes (entriesOf s) (sizeOf s))
   pub printing : T (printable (drop (9 * entriesOf s) (drop 8 s)))
-  pub keeping : T (shortTexts (root .flat a) && root .small a)
+  pub keeping : T (root .texts (root .flat a) && root .small a)
 
 -- the answer to a reading
 pub data Answers {A : Type 0} (root : Root A) (s : List ℕ) : Opened → Reading A → Type 0 where
@@ -76,23 +85,23 @@ pub data Answers {A : Type 0} (root : Root A) (s : List ℕ) : Opened → Readin
 
 -- ------------------------------------------------------------------ limits
 
-module _ (es : List Entry) {nodes calls : ℕ} {listed : Bool} where
-  to-limits : T (shortTexts es && (leb nodes 64 && (leb calls 4 && listed))) → Keeps true 0 0 nodes calls listed es
+module _ (g : List ℕ) (longest : ℕ) (limited : isLimited longest ≡ true) (es : List Entry) {nodes calls : ℕ} {listed : Bool} where
+  to-limits : T (shortIn g longest es && (leb nodes 64 && (leb calls 4 && listed))) → Keeps g longest 0 0 nodes calls listed es
   to-limits t =
-      let m = and-right (shortTexts es) _ t in
+      let m = and-right (shortIn g longest es) _ t in
       let q = and-right (leb nodes 64) _ m in
       record {
         nodes-keep = omega (arith, leb→le nodes 64 (and-left (leb nodes 64) _ m));
         calls-keep = omega (arith, leb→le calls 4 (and-left (leb calls 4) _ q));
-        listed-keep = and-right (leb calls 4) _ q;
-        texts-keep = and-left (shortTexts es) _ t;
+        listed-keep = rw limited (and-right (leb calls 4) _ q);
+        texts-keep = rw limited (and-left (shortIn g longest es) _ t);
       }
 
-  from-limits : Keeps true 0 0 nodes calls listed es → T (shortTexts es && (leb nodes 64 && (leb calls 4 && listed)))
+  from-limits : Keeps g longest 0 0 nodes calls listed es → T (shortIn g longest es && (leb nodes 64 && (leb calls 4 && listed)))
   from-limits k =
-      and-both (shortTexts es) _ (k .texts-keep)
+      and-both (shortIn g longest es) _ (rw limited at (k .texts-keep))
       (and-both (leb nodes 64) _ (le→leb nodes 64 (omega (arith, k .nodes-keep)))
-      (and-both (leb calls 4) _ (le→leb calls 4 (omega (arith, k .calls-keep))) (k .listed-keep)))
+      (and-both (leb calls 4) _ (le→leb calls 4 (omega (arith, k .calls-keep))) (rw limited at (k .listed-keep))))
 
 -- a scan that did not use up entries and text is a refusal
 judged-else : (l : Layout) (x : Scanned) → ((p : Place) (o : Bool) → x ≡ Ends p o → p .at ≡ l .entries → p .text ≡ l .size → ⊥)
@@ -118,7 +127,7 @@ empty (x ∷ l) e = absurd (omega arith)
 some-eq : {X : Type 0} {x y : X} → some x ≡ some y → x ≡ y
 some-eq h = (cc)
 
-module _ {A : Type 0} {root : Root A} {sort : ℕ} (r : RootOf root sort) where
+module _ {t : Table} {trees : Language t} {longest : ℕ} {A : Type 0} {root : Root A} {sort : ℕ} (r : RootBy trees longest root sort) where
   parsed : (es : List Entry) → Parsed root es (readStack root es (build es))
   unfolding readStack readRoot
   parsed es = go (build es) refl
@@ -142,7 +151,7 @@ module _ {A : Type 0} {root : Root A} {sort : ℕ} (r : RootOf root sort) where
             where
               last : (more : Stack) → root .reader st ≡ some (x .0, more)
                   → Parsed root es (elim more [ [] ↦ readLimits (root .texts es && root .small (x .0)) (x .0) | _∷_ i rest ↦ Reading.malformed ])
-              last [] q = rw (r .short es) (a-tree (x .0) (s-at-root (r .sound) st (x .0) q ∙ build-spells es st b))
+              last [] q = (a-tree (x .0) (s-at-root (r .sound) st (x .0) q ∙ build-spells es st b))
               last (i ∷ rest) q =
                   no-tree (λ a e.
                   let more : [] ≡ i ∷ rest = ap (λ (y : A × Stack). y .1) (some-eq (sym (taken a e st b) ∙ q)) in
@@ -152,24 +161,27 @@ module _ {A : Type 0} {root : Root A} {sort : ℕ} (r : RootOf root sort) where
   -- ---------------------------------------------------------------- the scan of all entries
 
   -- the scan says what the limits say
-  over-is : (a : A) → r .passes a .over true 0 0 ≡ not (shortTexts (root .flat a) && root .small a)
+  over-is : (a : A) → r .passes a .over longest 0 0 ≡ not (root .texts (root .flat a) && root .small a)
   over-is a =
-      rw (← (r .limits a))
-      (reported (shortTexts (root .flat a) && (leb (r .deep a isNode) 64 && (leb (r .deep a isCall) 4 && r .listed a))) (r .passes a .says true 0 0 (omega arith) (omega arith)) (to-limits (root .flat a)) (from-limits (root .flat a)))
+      let es = root .flat a in
+      rw (← (r .limits a), ← (r .short es))
+      (reported (shortIn (t .words) longest es && (leb (r .deep a (t .nodes)) 64 && (leb (r .deep a (t .calls)) 4 && r .listed a)))
+      (r .passes a .says longest 0 0 (omega arith) (omega arith)) (to-limits (t .words) longest (r .is-limited) es)
+      (from-limits (t .words) longest (r .is-limited) es))
 
   module _ (s : List ℕ) (l : Layout) (es : List Entry) (sized : l .entries ≡ length es) (filled : l .size ≡ widthsOf es) (w : WellTexted es) where
     abbrev scanned : Scanned
-    scanned = scanOf true (l .size) es (wait sort 0 0 ∷ []) 0 0 false
+    scanned = scanOf (t .words) longest (l .size) es (wait sort 0 0 ∷ []) 0 0 false
 
     -- the entries of a tree are passed over
-    judged-tree : (a : A) → root .flat a ≡ es → judged l scanned ≡ pick (not (shortTexts es && root .small a)) (Refused 3) (Tape l)
+    judged-tree : (a : A) → root .flat a ≡ es → judged l scanned ≡ pick (not (root .texts es && root .small a)) (Refused 3) (Tape l)
     judged-tree a e =
         let p = r .passes a in
         let n : length (textOf (root .flat a)) ≡ l .size = ap (λ (x : List Entry). length (textOf x)) e ∙ sym (widths-texted w) ∙ sym filled in
         let k : length (root .flat a) ≡ l .entries = ap length e ∙ sym sized in
-        let q = p .run true (l .size) 0 0 [] [] 0 0 false (omega arith) (omega arith) (omega arith) in
-        let z : scanned ≡ Ends (record { at = l .entries; text = l .size }) (not (shortTexts es && root .small a)) =
-        ap (λ (x : List Entry). scanOf true (l .size) x (wait sort 0 0 ∷ []) 0 0 false) (sym e ∙ sym (append-nil (root .flat a)))
+        let q = p .run longest (l .size) 0 0 [] [] 0 0 false (omega arith) (omega arith) (omega arith) in
+        let z : scanned ≡ Ends (record { at = l .entries; text = l .size }) (not (root .texts es && root .small a)) =
+        ap (λ (x : List Entry). scanOf (t .words) longest (l .size) x (wait sort 0 0 ∷ []) 0 0 false) (sym e ∙ sym (append-nil (root .flat a)))
         ∙ q ∙ rw (zero-add, zero-add, k, n, over-is a, e) in
         rw (z, eq-eqb (l .entries) (l .entries) refl, eq-eqb (l .size) (l .size) refl)
 
@@ -177,11 +189,11 @@ module _ {A : Type 0} {root : Root A} {sort : ℕ} (r : RootOf root sort) where
     judged-no-tree : ((a : A) → root .flat a ≡ es → ⊥) → judged l scanned ≡ Refused 2
     judged-no-tree not-one =
         judged-else l scanned (λ p o h e₁ e₂.
-        let f = found true (l .size) es (wait sort 0 0 ∷ []) 0 0 false p o w h in
-        let x = f .trees .0 in
-        let k = length-append (flatAt sort x ++ []) (f .rest) in
+        let f = found trees longest (l .size) es (wait sort 0 0 ∷ []) 0 0 false p o w h in
+        let x = f .trees-are .0 in
+        let k = length-append (trees .spell sort x ++ []) (f .rest) in
         let z : f .rest ≡ [] = empty (f .rest) (omega (arith, f .ends, ap length (f .split))) in
-        let y = flatAt sort x in
+        let y = trees .spell sort x in
         let all : es ≡ y = f .split ∙ ap (λ (more : List Entry). (y ++ []) ++ more) z ∙ append-nil (y ++ []) ∙ append-nil y in
         not-one (r .tree x) (r .spelled x ∙ sym all))
 
@@ -189,14 +201,14 @@ module _ {A : Type 0} {root : Root A} {sort : ℕ} (r : RootOf root sort) where
 
   module _ (s : List ℕ) where
     es : List Entry
-    es = entriesAt s (tapeLayout (entriesOf s) (sizeOf s)) 0 0 (entriesOf s)
+    es = entriesAt (t .words) s (tapeLayout (entriesOf s) (sizeOf s)) 0 0 (entriesOf s)
 
     -- a slice as long as its sizes say
     module _ (sized : length s ≡ 8 + 9 * entriesOf s + sizeOf s) (most : entriesOf s ≤ 1024) where
       abbrev l : Layout
       l = tapeLayout (entriesOf s) (sizeOf s)
 
-      scan-is : scanAt s l (record { at = 0; text = 0 }) sort true ≡ scanOf true (sizeOf s) es (wait sort 0 0 ∷ []) 0 0 false
+      scan-is : scanAt (t .words) s l (record { at = 0; text = 0 }) sort longest ≡ scanOf (t .words) longest (sizeOf s) es (wait sort 0 0 ∷ []) 0 0 false
       unfolding es
       scan-is =
           let e : starts s l (record { at = 0; text = 0 }) sort ≡ true =
@@ -213,34 +225,34 @@ module _ {A : Type 0} {root : Root A} {sort : ℕ} (r : RootOf root sort) where
       unfolding es
       sections-are =
           let k : length (drop (8 + 9 * entriesOf s) s) ≡ sizeOf s = length-drop (8 + 9 * entriesOf s) s ∙ omega arith in
-          let q = split-entries s l (entriesOf s) 0 0 (omega arith) (omega arith) in
+          let q = split-entries t s l (entriesOf s) 0 0 (omega arith) (omega arith) in
           rw (drop-drop (entriesOf s) 8 s, drop-drop (9 * entriesOf s) 8 s) (rw (add-zero, add-zero, k) at q)
 
       -- the scan of a tape's entries answers what is read from its sections
       scan-reads : T (fitsSizes (entriesOf s) (sizeOf s)) → T (printable (drop (9 * entriesOf s) (drop 8 s)))
-          → Answers root s (judged l (scanOf true (sizeOf s) es (wait sort 0 0 ∷ []) 0 0 false))
+          → Answers root s (judged l (scanOf (t .words) longest (sizeOf s) es (wait sort 0 0 ∷ []) 0 0 false))
           (readTree root (readText true (pick (eqb (widthsOf es) (sizeOf s)) (some es) none)))
       unfolding es readText readTree readLimits
       scan-reads fit text = go (eqb (widthsOf es) (sizeOf s)) (eqb-true (widthsOf es) (sizeOf s)) (eqb-false (widthsOf es) (sizeOf s))
         where
           scanned : Scanned
-          scanned = scanOf true (sizeOf s) es (wait sort 0 0 ∷ []) 0 0 false
+          scanned = scanOf (t .words) longest (sizeOf s) es (wait sort 0 0 ∷ []) 0 0 false
 
           k : length es ≡ entriesOf s
-          k = length-entries s l 0 0 (entriesOf s)
+          k = length-entries (t .words) s l 0 0 (entriesOf s)
 
           texted : widthsOf es ≡ sizeOf s → WellTexted es
-          texted e = entries-texted s l (entriesOf s) 0 0 (omega arith)
+          texted e = entries-texted t s l (entriesOf s) 0 0 (omega arith)
 
-          limited : widthsOf es ≡ sizeOf s → (a : A) → root .flat a ≡ es → (b : Bool) → (shortTexts es && root .small a) ≡ b
+          limited : widthsOf es ≡ sizeOf s → (a : A) → root .flat a ≡ es → (b : Bool) → (root .texts es && root .small a) ≡ b
               → Answers root s (pick (not b) (Refused 3) (Tape l)) (readLimits b a)
           limited e a x false q = answers-3
           limited e a x true q =
               let n : length (root .flat a) ≡ entriesOf s = ap length x ∙ k in
               let m : length (textOf (root .flat a)) ≡ sizeOf s = ap (λ (fs : List Entry). length (textOf fs)) x ∙ sym (widths-texted (texted e)) ∙ e in
-              answers-tape {l = l}
+              answers-tape {a = a} {l = l}
               (record {
-                entries-are = x;
+                values-are = λ bytes. rw x (values-64 (t .words) s l (entriesOf s) 0 0 bytes);
                 entries-count = n;
                 text-count = m;
                 sized = sized;
@@ -252,14 +264,14 @@ module _ {A : Type 0} {root : Root A} {sort : ℕ} (r : RootOf root sort) where
 
           told : widthsOf es ≡ sizeOf s → (o : Reading A) → Parsed root es o → Answers root s (judged l scanned) o
           told e Reading.malformed (no-tree x) = rw (judged-no-tree s l es (sym k) (sym e) (texted e) x) answers-2
-          told e o (a-tree a x) = rw (judged-tree s l es (sym k) (sym e) (texted e) a x) (limited e a x (shortTexts es && root .small a) refl)
+          told e o (a-tree a x) = rw (judged-tree s l es (sym k) (sym e) (texted e) a x) (limited e a x (root .texts es && root .small a) refl)
 
           go : (b : Bool) → (b ≡ true → widthsOf es ≡ sizeOf s) → (b ≡ false → widthsOf es ≡ sizeOf s → ⊥)
               → Answers root s (judged l scanned) (readTree root (readText true (pick b (some es) none)))
           go true h g = told (h refl) (readStack root es (build es)) (parsed es)
           go false h g =
               rw (judged-else l scanned (λ p o q e₁ e₂.
-              g refl (omega (arith, ends-text true (sizeOf s) es (wait sort 0 0 ∷ []) 0 0 false p o q (omega (arith, k))))))
+              g refl (omega (arith, ends-text t longest (sizeOf s) es (wait sort 0 0 ∷ []) 0 0 false p o q (omega (arith, k))))))
               answers-2
 
       -- text bytes, and then the scan
@@ -267,7 +279,7 @@ module _ {A : Type 0} {root : Root A} {sort : ℕ} (r : RootOf root sort) where
       sections = split (take (entriesOf s) (drop 8 s)) (take (8 * entriesOf s) (drop (entriesOf s) (drop 8 s))) (drop (9 * entriesOf s) (drop 8 s))
 
       printed : T (fitsSizes (entriesOf s) (sizeOf s)) → (b : Bool) → (T b → T (printable (drop (9 * entriesOf s) (drop 8 s))))
-          → Answers root s (pick b (judged l (scanAt s l (record { at = 0; text = 0 }) sort true)) (Refused 2)) (readTree root (readText b sections))
+          → Answers root s (pick b (judged l (scanAt (t .words) s l (record { at = 0; text = 0 }) sort longest)) (Refused 2)) (readTree root (readText b sections))
       unfolding readText readTree sections
       printed fit true text = rw (scan-is, sections-are) (scan-reads fit (text tt))
       printed fit false text = refused sections
@@ -277,48 +289,48 @@ module _ {A : Type 0} {root : Root A} {sort : ℕ} (r : RootOf root sort) where
           refused (some fs) = answers-2
 
       pub sections-answer : T (fitsSizes (entriesOf s) (sizeOf s))
-          → Answers root s (acceptIn s sort l) (readTree root (readText (printable (drop (9 * entriesOf s) (drop 8 s)))
+          → Answers root s (acceptIn (t .words) longest s sort l) (readTree root (readText (printable (drop (9 * entriesOf s) (drop 8 s)))
           (split (take (entriesOf s) (drop 8 s)) (take (8 * entriesOf s) (drop (entriesOf s) (drop 8 s))) (drop (9 * entriesOf s) (drop 8 s)))))
       unfolding sections
       sections-answer fit = rw (← (drop-drop (9 * entriesOf s) 8 s)) (printed fit (printable (drop (9 * entriesOf s) (drop 8 s))) (λ u. u))
 
   -- Acceptance answers what is read, for every list of bytes.
-  pub answers : (s : List ℕ) → Answers root s (acceptOf s sort) (read root s)
+  pub answers : (s : List ℕ) → Answers root s (acceptBy (t .words) longest s sort) (read root s)
   unfolding read readTape readSizes readSections readTree
   answers s = long (leb 8 (length s)) (leb→le 8 (length s))
     where
       n : ℕ
       n = entriesOf s
 
-      t : ℕ
-      t = sizeOf s
+      m : ℕ
+      m = sizeOf s
 
-      exact : T (fitsSizes n t) → 8 ≤ length s → (b : Bool) → (T b → length (drop 8 s) ≡ 9 * n + t)
-          → Answers root s (afterOpen s sort (pick b (Tape (tapeLayout n t)) (Refused 2)))
+      exact : T (fitsSizes n m) → 8 ≤ length s → (b : Bool) → (T b → length (drop 8 s) ≡ 9 * n + m)
+          → Answers root s (afterOpen (t .words) longest s sort (pick b (Tape (tapeLayout n m)) (Refused 2)))
           (readTree root (elim b [
             | true ↦ readText (printable (drop (9 * n) (drop 8 s))) (split (take n (drop 8 s)) (take (8 * n) (drop n (drop 8 s))) (drop (9 * n) (drop 8 s)))
             | false ↦ Reading.malformed
           ]))
       exact fit h false e = answers-2
-      exact fit h true e = sections-answer s (omega (arith, e tt, length-drop 8 s)) (fits-entries n t fit) fit
+      exact fit h true e = sections-answer s (omega (arith, e tt, length-drop 8 s)) (fits-entries n m fit) fit
 
-      same-size : 8 ≤ length s → eqb (length s) (8 + 9 * n + t) ≡ eqb (length (drop 8 s)) (9 * n + t)
+      same-size : 8 ≤ length s → eqb (length s) (8 + 9 * n + m) ≡ eqb (length (drop 8 s)) (9 * n + m)
       same-size h =
           let k = length-drop 8 s in
           same-test
-          (λ u. let z = eqb→eq (length s) (8 + 9 * n + t) u in eq→eqb (length (drop 8 s)) (9 * n + t) (omega arith))
-          (λ u. let z = eqb→eq (length (drop 8 s)) (9 * n + t) u in eq→eqb (length s) (8 + 9 * n + t) (omega arith))
+          (λ u. let z = eqb→eq (length s) (8 + 9 * n + m) u in eq→eqb (length (drop 8 s)) (9 * n + m) (omega arith))
+          (λ u. let z = eqb→eq (length (drop 8 s)) (9 * n + m) u in eq→eqb (length s) (8 + 9 * n + m) (omega arith))
 
-      fits : 8 ≤ length s → (b : Bool) → (T b → T (fitsSizes n t))
-          → Answers root s (afterOpen s sort (pick b (pick (eqb (length s) (8 + 9 * n + t)) (Tape (tapeLayout n t)) (Refused 2)) (Refused 3)))
-          (readTree root (elim b [ true ↦ readSections n t (drop 8 s) | false ↦ Reading.tooLarge ]))
+      fits : 8 ≤ length s → (b : Bool) → (T b → T (fitsSizes n m))
+          → Answers root s (afterOpen (t .words) longest s sort (pick b (pick (eqb (length s) (8 + 9 * n + m)) (Tape (tapeLayout n m)) (Refused 2)) (Refused 3)))
+          (readTree root (elim b [ true ↦ readSections n m (drop 8 s) | false ↦ Reading.tooLarge ]))
       fits h false fit = answers-3
       fits h true fit =
-          rw (same-size h) (exact (fit tt) h (eqb (length (drop 8 s)) (9 * n + t)) (eqb→eq (length (drop 8 s)) (9 * n + t)))
+          rw (same-size h) (exact (fit tt) h (eqb (length (drop 8 s)) (9 * n + m)) (eqb→eq (length (drop 8 s)) (9 * n + m)))
 
       long : (b : Bool) → (T b → 8 ≤ length s)
           → Answers root s
-          (afterOpen s sort (pick b (pick (fitsSizes n t) (pick (eqb (length s) (8 + 9 * n + t)) (Tape (tapeLayout n t)) (Refused 2)) (Refused 3)) (Refused 2)))
-          (readTree root (elim b [ true ↦ readSizes n t (drop 8 s) | false ↦ Reading.malformed ]))
+          (afterOpen (t .words) longest s sort (pick b (pick (fitsSizes n m) (pick (eqb (length s) (8 + 9 * n + m)) (Tape (tapeLayout n m)) (Refused 2)) (Refused 3)) (Refused 2)))
+          (readTree root (elim b [ true ↦ readSizes n m (drop 8 s) | false ↦ Reading.malformed ]))
       long false h = answers-2
-      long true h = fits (h tt) (fitsSizes n t) (λ u. u)
+      long true h = fits (h tt) (fitsSizes n m) (λ u. u)

@@ -38,11 +38,11 @@ module _ (s : List ℕ) (l : Layout) where
         held = held (and-left (holds s l) _ t);
         at-most = leb→le (from .at) (l .entries) (and-left (leb (from .at) (l .entries)) _ p);
         text-most = leb→le (from .text) (l .size) (and-left (leb (from .text) (l .size)) _ q);
-        is-sort = ltb→lt sort 25 (and-right (leb (from .text) (l .size)) _ q);
+        is-sort = ltb→lt sort 32 (and-right (leb (from .text) (l .size)) _ q);
       }
 
   pub starting : (from : Place) (sort : ℕ) → Starts s l from sort → T (starts s l from sort)
   starting from sort h =
       and-both (holds s l) _ (holding (h .held))
       (and-both (leb (from .at) (l .entries)) _ (le→leb _ _ (h .at-most))
-      (and-both (leb (from .text) (l .size)) _ (le→leb _ _ (h .text-most)) (lt→ltb sort 25 (h .is-sort))))
+      (and-both (leb (from .text) (l .size)) _ (le→leb _ _ (h .text-most)) (lt→ltb sort 32 (h .is-sort))))

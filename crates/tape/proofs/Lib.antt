@@ -1,9 +1,11 @@
 pub mod Located
-mod Holding
+pub mod Holding
 mod Parts
 mod Turns
 pub mod Passing
 pub mod Trees
+mod Found
+mod SmallTrees
 mod Typed
 mod Places
 pub mod Acceptance

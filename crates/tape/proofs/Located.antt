@@ -100,7 +100,7 @@ module _ {s : List ℕ} {l : Layout} {p : Place} {es : List Entry} (i : Inside s
       }
 
   -- to skip a tree is to come to the place behind it
-  pub inside-skip : {sort : ℕ} {d : (ℕ → Bool) → ℕ} {x : Bool} → Passes (sort ∷ []) es d x → sort < 25 → skipAt s l p sort ≡ At (past es p)
+  pub inside-skip : {sort : ℕ} {d : (ℕ → Bool) → ℕ} {x : Bool} → Passes (sort ∷ []) es d x → sort < 32 → skipAt s l p sort ≡ At (past es p)
   inside-skip b h = skip-run b h (i .run) ∙ ap At (sym (past-place es p))
 
   pub inside-size : sizeBetween s l (p .at) (past es p .at) ≡ size es

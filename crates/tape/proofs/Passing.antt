@@ -1,5 +1,5 @@
--- Runs of entries that a scan passes over: an entry with what follows it, and one run behind another. What a scan says of the largest
--- figures is what the depths and the texts of the run say.
+-- Runs of entries that a scan passes over, by any table that is well made: an entry with what follows it, and one run behind another. What
+-- a scan says of the largest figures is what the depths and the texts of the run say.
 -- Assumes nothing.
 use Prim.Native.Nat.{ℕ, _+_, _-_, _≤_, _<_, max}
 use mathlib.Core.Path.{_≡_, refl, ap, sym, _∙_}
@@ -7,18 +7,19 @@ use mathlib.Core.Bool.{Bool, true, false, not, _&&_, _||_, and-assoc, or-assoc, 
 use mathlib.Core.List.{List, [], _∷_, _++_, append-assoc}
 use native.Mathlib.Nat.{add-zero}
 use native.Mathlib.Omega.{arith}
-use lib.Dec.{T, leb, ltb, eqb, leb→le, le→leb, ltb→lt, nltb→le, nleb→lt, not-T, T-not}
+use lib.Dec.{T, leb, ltb, leb→le, le→leb, ltb→lt, nltb→le, not-T, T-not}
 use lib.ListN.{length, length-append, length-replicate}
 use Rattle.format.specs.Entry.{Entry, textOf}
-use Rattle.format.specs.Limits.{isNode, isCall, weigh}
-use Rattle.format.specs.Macro.{isCode}
-use Rattle.format.specs.Tape.{isText, textWidth, longestText, shortTexts}
+use Rattle.format.specs.Limits.{weigh}
+use Rattle.format.specs.Tape.{isText, textWidth}
 use Rattle.format.proofs.All.{all-nil, all-cons, all-append}
 use Rattle.format.proofs.Encodes.{WellTexted}
 use Rattle.format.proofs.Stands.{text-append}
-use Rattle.grammar.specs.Grammar.{Follows, once, each, sortsOf, inSort, rowAt, parameters}
-use Rattle.tape.specs.Layouts.{headOf}
-use Rattle.grammar.specs.Waits.{Wait, wait, waits, valued, counted, accepts, deeper, enclosed, exceeds}
+use Rattle.grammar.specs.Grammar.{Follows, once, each, sortsOf}
+use Rattle.grammar.specs.Words.{sortAt, rowAt, inSort, isFew, valuesOf, nestingOf, callsOf, followsIn, followsOf, longestOf}
+use Rattle.grammar.specs.Waits.{Wait, wait, waits, headOf, valued, counted, accepts, deeper, enclosed, isLimited, passes, exceeds}
+use Rattle.grammar.specs.declared.entry.Head.{Head}
+use Rattle.grammar.proofs.Marks.{Table, temporal}
 use Rattle.tape.specs.Scan.{scanOf}
 use Rattle.format.proofs.Tests.{and-left, and-right, and-both, is-true, from-true, same-test}
 
@@ -51,87 +52,96 @@ reports-not : (b : Bool) → Reports b (T (not b))
 reports-not true = record { passed = λ t n. n; kept = λ t. t }
 reports-not false = record { passed = λ t n. t; kept = λ t. t }
 
--- one more is too many
-reports-figure : (p : Bool) (n most : ℕ) → n ≤ most → Reports (p && leb most n) (n + weigh p ≤ most)
-unfolding weigh
-reports-figure false n most h = record { passed = λ t q. t; kept = λ t. omega arith }
-reports-figure true n most h =
-    record {
-      passed = λ t q. let g = leb→le most n t in omega arith;
-      kept = λ t. let g : n < most = nleb→lt most n t in
-          omega arith;
-    }
+-- what adds nothing passes nothing
+reports-figure : (most n more : ℕ) → n ≤ most → Reports (passes most n more) (n + more ≤ most)
+reports-figure most n more h =
+    go (ltb most (n + more)) (ltb 0 more) (ltb→lt most (n + more)) (nltb→le most (n + more)) (nltb→le 0 more)
+  where
+    go : (a b : Bool) → (T a → most < n + more) → (T (not a) → n + more ≤ most) → (T (not b) → more ≤ 0) → Reports (a && b) (n + more ≤ most)
+    go false b f g k = record { passed = λ t q. t; kept = λ t. g tt }
+    go true false f g k = record { passed = λ t q. t; kept = λ t. let z = k tt in omega arith }
+    go true true f g k = record { passed = λ t q. let z = f tt in omega arith; kept = λ t. absurd t }
 
 -- ------------------------------------------------------------------ the largest figures
 
--- short texts, where that is asked
-abbrev shortIf : Bool → List Entry → Bool
-shortIf true es = shortTexts es
-shortIf false es = true
+-- no text is longer than it may be
+abbrev pub shortIn : List ℕ → ℕ → List Entry → Bool
+shortIn g longest [] = true
+shortIn g longest (e ∷ es) = leb (length (e .text)) (longestOf longest (rowAt g (e .code))) && shortIn g longest es
+
+-- where that is asked
+abbrev asked : Bool → Bool → Bool
+asked true b = b
+asked false b = true
+
+asked-and : (limited a b : Bool) → asked limited (a && b) ≡ (asked limited a && asked limited b)
+asked-and true a b = refl
+asked-and false a b = refl
+
+asked-not : (limited b : Bool) → asked limited (not b) ≡ not (limited && b)
+asked-not true b = refl
+asked-not false b = refl
 
 -- entries with so many nodes and calls on a path, below n nodes and k calls, pass no largest figure
-pub record Keeps (limited : Bool) (n k nodes calls : ℕ) (listed : Bool) (es : List Entry) : Type 0 where
+pub record Keeps (g : List ℕ) (longest n k nodes calls : ℕ) (listed : Bool) (es : List Entry) : Type 0 where
   pub nodes-keep : n + nodes ≤ 64
   pub calls-keep : k + calls ≤ 4
-  pub listed-keep : T listed
-  pub texts-keep : T (shortIf limited es)
+  pub listed-keep : T (asked (isLimited longest) listed)
+  pub texts-keep : T (asked (isLimited longest) (shortIn g longest es))
 
--- no list of more than 16 parameters
-abbrev pub listedAt : ℕ → ℕ → Bool
-listedAt s v = not (eqb s parameters && ltb 16 v)
+-- no short list of more than 16
+abbrev pub listedAt : List ℕ → ℕ → ℕ → Bool
+listedAt g s v = not (isFew (sortAt g s) && ltb 16 v)
 
-short-none : (limited : Bool) → T (shortIf limited [])
-unfolding shortTexts
-short-none true = tt
-short-none false = tt
+asked-true : (limited : Bool) → T (asked limited true)
+asked-true true = tt
+asked-true false = tt
 
-pub short-append : (es fs : List Entry) → shortTexts (es ++ fs) ≡ (shortTexts es && shortTexts fs)
-unfolding shortTexts
-short-append [] fs = refl
-short-append (e ∷ es) fs =
-    let own = leb (length (e .text)) (longestText (isCode (22 ∷ 23 ∷ []) (e .code))) in
-    ap (λ (b : Bool). own && b) (short-append es fs) ∙ sym (and-assoc own (shortTexts es) (shortTexts fs))
-
-short-both : (limited : Bool) (es fs : List Entry) → shortIf limited (es ++ fs) ≡ (shortIf limited es && shortIf limited fs)
-short-both true es fs = short-append es fs
-short-both false es fs = refl
+short-append : (g : List ℕ) (longest : ℕ) (es fs : List Entry) → shortIn g longest (es ++ fs) ≡ (shortIn g longest es && shortIn g longest fs)
+short-append g longest [] fs = refl
+short-append g longest (e ∷ es) fs =
+    let own = leb (length (e .text)) (longestOf longest (rowAt g (e .code))) in
+    ap (λ (b : Bool). own && b) (short-append g longest es fs) ∙ sym (and-assoc own (shortIn g longest es) (shortIn g longest fs))
 
 -- ------------------------------------------------------------------ runs that a scan passes over
 
 -- A run of entries of the sorts ss, with d p entries that pass the test p on a path.
-pub record Passes (ss : List ℕ) (es : List Entry) (d : (ℕ → Bool) → ℕ) (listed : Bool) : Type 0 where
+pub record PassesBy (t : Table) (ss : List ℕ) (es : List Entry) (d : (ℕ → Bool) → ℕ) (listed : Bool) : Type 0 where
   pub texted : WellTexted es
   pub long : length ss ≤ length es
-  pub over : Bool → ℕ → ℕ → Bool
-  pub run : (limited : Bool) (size n k : ℕ) (st : List Wait) (rest : List Entry) (at text : ℕ) (o : Bool)
+  pub over : ℕ → ℕ → ℕ → Bool
+  pub run : (longest size n k : ℕ) (st : List Wait) (rest : List Entry) (at text : ℕ) (o : Bool)
       → n ≤ 64 → k ≤ 4 → text + length (textOf es) ≤ size
-      → scanOf limited size (es ++ rest) (waits n k ss ++ st) at text o
-      ≡ scanOf limited size rest st (at + length es) (text + length (textOf es)) (o || over limited n k)
-  pub says : (limited : Bool) (n k : ℕ) → n ≤ 64 → k ≤ 4
-      → Reports (over limited n k) (Keeps limited n k (d isNode) (d isCall) listed es)
+      → scanOf (t .words) longest size (es ++ rest) (waits n k ss ++ st) at text o
+      ≡ scanOf (t .words) longest size rest st (at + length es) (text + length (textOf es)) (o || over longest n k)
+  pub says : (longest n k : ℕ) → n ≤ 64 → k ≤ 4
+      → Reports (over longest n k) (Keeps (t .words) longest n k (d (t .nodes)) (d (t .calls)) listed es)
 
-moved : (limited : Bool) (size : ℕ) (rest : List Entry) (st : List Wait) {at at′ text text′ : ℕ} {o o′ : Bool}
-    → at ≡ at′ → text ≡ text′ → o ≡ o′ → scanOf limited size rest st at text o ≡ scanOf limited size rest st at′ text′ o′
-moved limited size rest st p q r = rw (p, q, r)
+-- by the table of document 01
+abbrev pub Passes : List ℕ → List Entry → ((ℕ → Bool) → ℕ) → Bool → Type 0
+Passes ss es d listed = PassesBy temporal ss es d listed
+
+moved : (g : List ℕ) (longest size : ℕ) (rest : List Entry) (st : List Wait) {at at′ text text′ : ℕ} {o o′ : Bool}
+    → at ≡ at′ → text ≡ text′ → o ≡ o′ → scanOf g longest size rest st at text o ≡ scanOf g longest size rest st at′ text′ o′
+moved g longest size rest st p q r = rw (p, q, r)
 
 -- nothing
-pub none : Passes [] [] (λ p. 0) true
+pub none : {t : Table} → PassesBy t [] [] (λ p. 0) true
 unfolding textOf
-none =
+none {t} =
     record {
       texted = all-nil;
       long = omega arith;
-      over = λ limited n k. false;
-      run = λ limited size n k st rest at text o h₁ h₂ h. moved limited size rest st (sym (add-zero at)) (sym (add-zero text))
-          (sym (or-false o));
-      says = λ limited n k h₁ h₂. record {
+      over = λ longest n k. false;
+      run = λ longest size n k st rest at text o h₁ h₂ h. moved (t .words) longest size rest st (sym (add-zero at))
+          (sym (add-zero text)) (sym (or-false o));
+      says = λ longest n k h₁ h₂. record {
         passed = λ t q. t;
-        kept = λ t. record {
+        kept = λ u. record {
           nodes-keep = omega arith;
           calls-keep = omega arith;
-          listed-keep = tt;
-          texts-keep =
-              short-none limited;
+          listed-keep = asked-true (isLimited longest);
+          texts-keep = asked-true (isLimited longest);
         };
       };
     }
@@ -141,42 +151,45 @@ waits-append n k [] ts st = refl
 waits-append n k (s ∷ ss) ts st = ap (λ (l : List Wait). wait s n k ∷ l) (waits-append n k ss ts st)
 
 -- one run behind another
-module _ {ss ts : List ℕ} {es fs : List Entry} {d g : (ℕ → Bool) → ℕ} {x y : Bool} where
+module _ {t : Table} {ss ts : List ℕ} {es fs : List Entry} {d g : (ℕ → Bool) → ℕ} {x y : Bool} where
   infixr 20 _then_
-  pub _then_ : Passes ss es d x → Passes ts fs g y → Passes (ss ++ ts) (es ++ fs) (λ p. max (d p) (g p)) (x && y)
+  pub _then_ : PassesBy t ss es d x → PassesBy t ts fs g y → PassesBy t (ss ++ ts) (es ++ fs) (λ p. max (d p) (g p)) (x && y)
   _then_ a b =
       record {
         texted = all-append (a .texted) (b .texted);
         long = omega (arith, a .long, b .long, length-append ss ts, length-append es fs);
-        over = λ limited n k. a .over limited n k || b .over limited n k;
-        run = λ limited size n k st rest at text o h₁ h₂ h.
+        over = λ longest n k. a .over longest n k || b .over longest n k;
+        run = λ longest size n k st rest at text o h₁ h₂ h.
             let l = length-append es fs in
-            let t = ap length (text-append es fs) ∙ length-append (textOf es) (textOf fs) in
+            let u = ap length (text-append es fs) ∙ length-append (textOf es) (textOf fs) in
             rw (append-assoc es fs rest, waits-append n k ss ts st)
-            (a .run limited size n k (waits n k ts ++ st) (fs ++ rest) at text o h₁ h₂ (omega arith)
-            ∙ b .run limited size n k st rest (at + length es) (text + length (textOf es)) (o || a .over limited n k) h₁ h₂
+            (a .run longest size n k (waits n k ts ++ st) (fs ++ rest) at text o h₁ h₂ (omega arith)
+            ∙ b .run longest size n k st rest (at + length es) (text + length (textOf es)) (o || a .over longest n k) h₁ h₂
             (omega arith)
-            ∙ moved limited size rest st (omega arith) (omega arith) (or-assoc o (a .over limited n k) (b .over limited n k)));
-        says = λ limited n k h₁ h₂.
-            let short = short-both limited es fs in
-            reports-or (a .says limited n k h₁ h₂) (b .says limited n k h₁ h₂)
+            ∙ moved (t .words) longest size rest st (omega arith) (omega arith) (or-assoc o (a .over longest n k) (b .over longest n k)));
+        says = λ longest n k h₁ h₂.
+            let z = isLimited longest in
+            let first = shortIn (t .words) longest es in
+            let short = ap (asked z) (short-append (t .words) longest es fs) ∙ asked-and z first (shortIn (t .words) longest fs) in
+            let listed = asked-and z x y in
+            reports-or (a .says longest n k h₁ h₂) (b .says longest n k h₁ h₂)
             (λ p q. record {
               nodes-keep = omega (arith, p .nodes-keep, q .nodes-keep);
               calls-keep = omega (arith, p .calls-keep, q .calls-keep);
-              listed-keep = and-both x y (p .listed-keep) (q .listed-keep);
-              texts-keep = rw short (and-both (shortIf limited es) _ (p .texts-keep) (q .texts-keep));
+              listed-keep = rw listed (and-both (asked z x) _ (p .listed-keep) (q .listed-keep));
+              texts-keep = rw short (and-both (asked z first) _ (p .texts-keep) (q .texts-keep));
             })
             (λ r. record {
               nodes-keep = omega (arith, r .nodes-keep);
               calls-keep = omega (arith, r .calls-keep);
-              listed-keep = and-left x y (r .listed-keep);
-              texts-keep = and-left (shortIf limited es) _ (rw short at (r .texts-keep));
+              listed-keep = and-left (asked z x) _ (rw listed at (r .listed-keep));
+              texts-keep = and-left (asked z first) _ (rw short at (r .texts-keep));
             })
             (λ r. record {
               nodes-keep = omega (arith, r .nodes-keep);
               calls-keep = omega (arith, r .calls-keep);
-              listed-keep = and-right x y (r .listed-keep);
-              texts-keep = and-right (shortIf limited es) _ (rw short at (r .texts-keep));
+              listed-keep = and-right (asked z x) _ (rw listed at (r .listed-keep));
+              texts-keep = and-right (asked z first) _ (rw short at (r .texts-keep));
             });
       }
 
@@ -187,119 +200,135 @@ not-ltb a b = same-test (λ t. le→leb b a (nltb→le a b t))
     (λ t. not-T (ltb a b) (λ u. let g = ltb→lt a b u in let h = leb→le b a t in omega arith))
 
 -- a code and a value that may stand at a place of a sort
-abbrev pub allowed : ℕ → Entry → Bool
-allowed s e = inSort s (e .code) && valued (rowAt s (e .code) .values) (e .value)
+abbrev pub allowed : List ℕ → ℕ → Entry → Bool
+allowed g s e = inSort (sortAt g s) (e .code) && valued (valuesOf (rowAt g (e .code))) (e .value)
+
+-- the sorts of what follows
+abbrev pub sortsBelow : List ℕ → ℕ → Entry → List ℕ
+sortsBelow g s e = sortsOf (followsOf (followsIn (sortAt g s) (rowAt g (e .code)))) (e .value)
 
 -- a count says no more entries than there are sorts
 counted-long : (f : Follows) (v : ℕ) → counted f v ≤ length (sortsOf f v)
 counted-long (once ss) v = omega arith
 counted-long (each s) v = omega (arith, length-replicate v s)
 
-module _ (s : ℕ) (e : Entry) (ok : allowed s e ≡ true) (wide : length (e .text) ≡ textWidth (isText (e .code)) (e .value)) where
-  lets-in : (left room : ℕ) → counted (rowAt s (e .code) .follows) (e .value) ≤ left → length (e .text) ≤ room
-      → accepts left room s (headOf e) ≡ true
+module _ (t : Table) (s : ℕ) (e : Entry) (ok : allowed (t .words) s e ≡ true)
+    (wide : length (e .text) ≡ textWidth (isText (e .code)) (e .value)) where
+  abbrev head : Head
+  head = headOf (t .words) s (e .code) (e .value)
+
+  -- the table's mark says the same
+  width : length (e .text) ≡ head .text
+  width = wide ∙ ap (λ (b : Bool). textWidth b (e .value)) (sym (t .texts-are (e .code)))
+
+  lets-in : (left room : ℕ) → counted (followsOf (head .follows)) (e .value) ≤ left → length (e .text) ≤ room
+      → accepts left room head ≡ true
   lets-in left room h₁ h₂ =
-      let t = from-true ok in
-      let a = inSort s (e .code) in
-      is-true (and-both a _ (and-left a _ t)
-      (and-both (valued (rowAt s (e .code) .values) (e .value)) _ (and-right a _ t)
-      (and-both (leb (counted (rowAt s (e .code) .follows) (e .value)) left) _ (le→leb _ _ h₁) (le→leb _ _ (rw wide at h₂)))))
+      let u = from-true ok in
+      let a = inSort (head .sort) (e .code) in
+      is-true (and-both a _ (and-left a _ u)
+      (and-both (valued (valuesOf (head .row)) (e .value)) _ (and-right a _ u)
+      (and-both (leb (counted (followsOf (head .follows)) (e .value)) left) _ (le→leb _ _ h₁) (le→leb _ _ (rw width at h₂)))))
 
   -- the entry's own figures
-  short-entry : (limited : Bool) (es : List Entry)
-      → shortIf limited (e ∷ es) ≡ (not
-      (limited && ltb (longestText (isCode (22 ∷ 23 ∷ []) (e .code))) (headOf e .text)) && shortIf limited es)
-  unfolding shortTexts
-  short-entry true es =
-      let long = longestText (isCode (22 ∷ 23 ∷ []) (e .code)) in
-      rw wide (ap (λ (b : Bool). b && shortTexts es) (sym (not-ltb long (headOf e .text))))
-  short-entry false es = refl
+  short-entry : (limited : Bool) (longest : ℕ) (es : List Entry)
+      → asked limited (shortIn (t .words) longest (e ∷ es))
+      ≡ (not (limited && ltb (longestOf longest (head .row)) (head .text)) && asked limited (shortIn (t .words) longest es))
+  short-entry true longest es =
+      rw width (ap (λ (b : Bool). b && shortIn (t .words) longest es) (sym (not-ltb (longestOf longest (head .row)) (head .text))))
+  short-entry false longest es = refl
 
-  module _ {es : List Entry} {d : (ℕ → Bool) → ℕ} {x : Bool}
-      (b : Passes (sortsOf (rowAt s (e .code) .follows) (e .value)) es d x) where
-    entry-says : (limited : Bool) (n k : ℕ) → n ≤ 64 → k ≤ 4
-        → Reports (exceeds limited (wait s n k) (headOf e) || b .over limited (deeper n (e .code)) (enclosed k (e .code)))
-        (Keeps limited n k (weigh (isNode (e .code)) + d isNode) (weigh (isCall (e .code)) + d isCall)
-        (listedAt s (e .value) && x) (e ∷ es))
-    entry-says limited n k h₁ h₂ =
-        let long = limited && ltb (longestText (isCode (22 ∷ 23 ∷ []) (e .code))) (headOf e .text) in
-        let short = short-entry limited es in
+  module _ {es : List Entry} {d : (ℕ → Bool) → ℕ} {x : Bool} (b : PassesBy t (sortsBelow (t .words) s e) es d x) where
+    entry-says : (longest n k : ℕ) → n ≤ 64 → k ≤ 4
+        → Reports (exceeds longest (wait s n k) head || b .over longest (deeper n head) (enclosed k head))
+        (Keeps (t .words) longest n k (weigh (t .nodes (e .code)) + d (t .nodes)) (weigh (t .calls (e .code)) + d (t .calls))
+        (listedAt (t .words) s (e .value) && x) (e ∷ es))
+    entry-says longest n k h₁ h₂ =
+        let z = isLimited longest in
+        let long = z && ltb (longestOf longest (head .row)) (head .text) in
+        let short = short-entry z longest es in
+        let many = isFew (head .sort) && ltb 16 (e .value) in
+        let listed = asked-and z (not many) x ∙ ap (λ (b : Bool). b && asked z x) (asked-not z many) in
+        let node = t .nodes-are (e .code) in
+        let call = t .calls-are (e .code) in
         reports-or
-        (paired (reports-figure (isNode (e .code)) n 64 h₁)
-        (paired (reports-not (eqb s parameters && ltb 16 (e .value)))
-        (paired (reports-figure (isCall (e .code)) k 4 h₂) (reports-not long))))
-        (b .says limited (deeper n (e .code)) (enclosed k (e .code)) (omega arith) (omega arith))
+        (paired (reports-figure 64 n (nestingOf (head .row)) h₁)
+        (paired (reports-figure 4 k (callsOf (head .row)) h₂)
+        (paired (reports-not (z && many)) (reports-not long))))
+        (b .says longest (deeper n head) (enclosed k head) (omega arith) (omega arith))
         (λ p q. record {
-          nodes-keep = omega (arith, p .0, q .nodes-keep);
-          calls-keep = omega (arith, p .1 .1 .0, q .calls-keep);
-          listed-keep = and-both (listedAt s (e .value)) x (p .1 .0) (q .listed-keep);
+          nodes-keep = omega (arith, p .0, q .nodes-keep, node);
+          calls-keep = omega (arith, p .1 .0, q .calls-keep, call);
+          listed-keep = rw listed (and-both (not (z && many)) _ (p .1 .1 .0) (q .listed-keep));
           texts-keep = rw short (and-both (not long) _ (p .1 .1 .1) (q .texts-keep));
         })
         (λ r. (
-          omega (arith, r .nodes-keep),
+          omega (arith, r .nodes-keep, node),
           (
-            and-left (listedAt s (e .value)) x (r .listed-keep),
-            (omega (arith, r .calls-keep), and-left (not long) _ (rw short at (r .texts-keep))),
+            omega (arith, r .calls-keep, call),
+            (and-left (not (z && many)) _ (rw listed at (r .listed-keep)), and-left (not long) _ (rw short at (r .texts-keep))),
           ),
         ))
         (λ r. record {
-          nodes-keep = omega (arith, r .nodes-keep);
-          calls-keep = omega (arith, r .calls-keep);
-          listed-keep = and-right (listedAt s (e .value)) x (r .listed-keep);
+          nodes-keep = omega (arith, r .nodes-keep, node);
+          calls-keep = omega (arith, r .calls-keep, call);
+          listed-keep = and-right (not (z && many)) _ (rw listed at (r .listed-keep));
           texts-keep = and-right (not long) _ (rw short at (r .texts-keep));
         })
 
-    pub node : Passes (s ∷ []) (e ∷ es) (λ p. weigh (p (e .code)) + d p) (listedAt s (e .value) && x)
+    entry-passes : PassesBy t (s ∷ []) (e ∷ es) (λ p. weigh (p (e .code)) + d p) (listedAt (t .words) s (e .value) && x)
     unfolding textOf
-    node =
+    entry-passes =
         record {
           texted = all-cons wide (b .texted);
           long = omega arith;
-          over = λ limited n k. exceeds limited (wait s n k) (headOf e) || b .over limited (deeper n (e .code))
-              (enclosed k (e .code));
-          run = λ limited size n k st rest at text o h₁ h₂ h.
-              let c = counted-long (rowAt s (e .code) .follows) (e .value) in
+          over = λ longest n k. exceeds longest (wait s n k) head || b .over longest (deeper n head) (enclosed k head);
+          run = λ longest size n k st rest at text o h₁ h₂ h.
+              let c = counted-long (followsOf (head .follows)) (e .value) in
               let l = length-append es rest in
-              let t = length-append (e .text) (textOf es) in
-              let more = exceeds limited (wait s n k) (headOf e) in
+              let u = length-append (e .text) (textOf es) in
+              let more = exceeds longest (wait s n k) head in
               let ok′ = lets-in (length (es ++ rest)) (size - text) (omega (arith, b .long)) (omega arith) in
               rw ok′
-              (b .run limited size (deeper n (e .code)) (enclosed k (e .code)) st rest (at + 1) (text + headOf e .text)
-              (o || more) (omega arith)
-              (omega arith) (omega (arith, wide))
-              ∙ moved limited size rest st (omega arith) (omega (arith, wide))
-              (or-assoc o more (b .over limited (deeper n (e .code)) (enclosed k (e .code)))));
+              (b .run longest size (deeper n head) (enclosed k head) st rest (at + 1) (text + head .text) (o || more) (omega arith)
+              (omega arith) (omega (arith, width))
+              ∙ moved (t .words) longest size rest st (omega arith) (omega (arith, width))
+              (or-assoc o more (b .over longest (deeper n head) (enclosed k head))));
           says = entry-says;
         }
 
--- the same with its depths said otherwise
-deep-as : {ss : List ℕ} {es : List Entry} {d : (ℕ → Bool) → ℕ} {x : Bool} (g : (ℕ → Bool) → ℕ) → d isNode ≡ g isNode → d isCall
-    ≡ g isCall
-    → Passes ss es d x → Passes ss es g x
-deep-as g p q b =
-    record {
-      texted = b .texted;
-      long = b .long;
-      over = b .over;
-      run = b .run;
-      says = λ limited n k h₁ h₂. rw (← p, ← q) (b .says limited n k h₁ h₂);
-    }
+module _ {t : Table} where
+  -- the same with its depths said otherwise
+  deep-as : {ss : List ℕ} {es : List Entry} {d : (ℕ → Bool) → ℕ} {x : Bool} (g : (ℕ → Bool) → ℕ) → d (t .nodes) ≡ g (t .nodes)
+      → d (t .calls) ≡ g (t .calls) → PassesBy t ss es d x → PassesBy t ss es g x
+  deep-as g p q b =
+      record {
+        texted = b .texted;
+        long = b .long;
+        over = b .over;
+        run = b .run;
+        says = λ longest n k h₁ h₂. rw (← p, ← q) (b .says longest n k h₁ h₂);
+      }
 
--- an entry with nothing deep below it
-module _ (s : ℕ) (e : Entry) (ok : allowed s e ≡ true) (wide : length (e .text) ≡ textWidth (isText (e .code)) (e .value))
-    {es : List Entry} {x : Bool} where
-  pub tip : Passes (sortsOf (rowAt s (e .code) .follows) (e .value)) es (λ p. 0) x
-      → Passes (s ∷ []) (e ∷ es) (λ p. weigh (p (e .code))) (listedAt s (e .value) && x)
-  tip b = deep-as _ (omega arith) (omega arith) (node s e ok wide b)
+  module _ (s : ℕ) (e : Entry) (ok : allowed (t .words) s e ≡ true) (wide : length (e .text) ≡ textWidth (isText (e .code)) (e .value))
+      {es : List Entry} {x : Bool} where
+    pub node : {d : (ℕ → Bool) → ℕ} → PassesBy t (sortsBelow (t .words) s e) es d x
+        → PassesBy t (s ∷ []) (e ∷ es) (λ p. weigh (p (e .code)) + d p) (listedAt (t .words) s (e .value) && x)
+    node b = entry-passes t s e ok wide b
 
-  -- an entry that is no node and no call
-  pub plain : {d : (ℕ → Bool) → ℕ} → weigh (isNode (e .code)) ≡ 0 → weigh (isCall (e .code)) ≡ 0
-      → Passes (sortsOf (rowAt s (e .code) .follows) (e .value)) es d x
-      → Passes (s ∷ []) (e ∷ es) d (listedAt s (e .value) && x)
-  plain {d} p q b = deep-as d (omega arith) (omega arith) (node s e ok wide b)
+    -- an entry with nothing deep below it
+    pub tip : PassesBy t (sortsBelow (t .words) s e) es (λ p. 0) x
+        → PassesBy t (s ∷ []) (e ∷ es) (λ p. weigh (p (e .code))) (listedAt (t .words) s (e .value) && x)
+    tip b = deep-as _ (omega arith) (omega arith) (node b)
 
--- something behind a run in which nothing is deep
-infixr 20 _before_
-pub _before_ : {ss ts : List ℕ} {es fs : List Entry} {g : (ℕ → Bool) → ℕ} {x y : Bool}
-    → Passes ss es (λ p. 0) x → Passes ts fs g y → Passes (ss ++ ts) (es ++ fs) g (x && y)
-_before_ {g = g} a b = deep-as g (omega arith) (omega arith) (a then b)
+    -- an entry that is no node and no call
+    pub plain : {d : (ℕ → Bool) → ℕ} → weigh (t .nodes (e .code)) ≡ 0 → weigh (t .calls (e .code)) ≡ 0
+        → PassesBy t (sortsBelow (t .words) s e) es d x
+        → PassesBy t (s ∷ []) (e ∷ es) d (listedAt (t .words) s (e .value) && x)
+    plain {d} p q b = deep-as d (omega arith) (omega arith) (node b)
+
+  -- something behind a run in which nothing is deep
+  infixr 20 _before_
+  pub _before_ : {ss ts : List ℕ} {es fs : List Entry} {g : (ℕ → Bool) → ℕ} {x y : Bool}
+      → PassesBy t ss es (λ p. 0) x → PassesBy t ts fs g y → PassesBy t (ss ++ ts) (es ++ fs) g (x && y)
+  _before_ {g = g} a b = deep-as g (omega arith) (omega arith) (a then b)

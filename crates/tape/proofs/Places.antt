@@ -1,24 +1,25 @@
 -- The entries that a slice has at a place: those that stand there, and those that a tape's sections are split into.
 -- Assumes nothing.
-use Prim.Native.Nat.{ℕ, zero, suc, _+_, _*_, _≤_, _<_}
-use mathlib.Core.Path.{_≡_, refl, _∙_, subst}
+use Prim.Native.Nat.{ℕ, zero, suc, _+_, _*_, _^_, _≤_, _<_}
+use mathlib.Core.Path.{_≡_, refl, ap, _∙_, subst}
 use mathlib.Core.Bool.{Bool, true, false, not}
 use mathlib.Core.List.{List, [], _∷_, _++_}
 use mathlib.Core.Option.{Option, none, some}
-use native.Mathlib.Nat.{add-zero, zero-add, add-assoc}
+use native.Mathlib.Nat.{add-zero, zero-add, add-assoc, pow-le-pow-right, lt-of-lt-of-le}
 use native.Mathlib.Omega.{arith}
 use borrow.Author.Tests.{ne-eqb}
-use lib.Dec.{T, leb, eqb, leb→le, nleb→lt, eqb→eq, eqb-refl}
-use lib.ListN.{length, take, drop, length-append, length-drop}
+use lib.Dec.{T, leb, eqb, leb→le, nleb→lt, eqb→eq, eqb-refl, lit<}
+use lib.ListN.{length, take, drop, length-append, length-take, length-drop}
 use lib.Seq.{take-take, take-add, drop-drop, drop-at}
 use Rattle.format.specs.Entry.{Text, Entry, textOf}
 use Rattle.format.specs.Stands.{part, Stands}
-use Rattle.format.specs.Tape.{isText, textWidth, cons, takeEntry, split}
-use Rattle.format.proofs.Accepted.{Values64}
+use Rattle.format.specs.Tape.{isText, textWidth, cons, takeEntry, split, Bytes}
+use Rattle.format.proofs.Accepted.{Values64, fromLe-lt, bytes-take, bytes-drop}
 use Rattle.format.proofs.All.{all-nil, all-cons, all-head, all-tail}
 use Rattle.format.proofs.Encodes.{WellTexted}
 use Rattle.format.proofs.Stands.{part-cons, length-part, stands-code, stands-value, stands-text, stands-next}
-use Rattle.tape.specs.Layouts.{codeAt, valueAt, widthAt, entriesAt}
+use Rattle.grammar.proofs.Marks.{Table}
+use Rattle.tape.specs.Layouts.{codeAt, valueAt, widthAt, widthBy, entriesAt}
 use Rattle.tape.specs.Pick.{pick}
 use Rattle.tape.specs.declared.layout.Layout.{Layout}
 use Rattle.format.proofs.Tests.{same-test}
@@ -33,16 +34,23 @@ unfolding textOf
 widths-texted all-nil = refl
 widths-texted (all-cons {a = e} {l = es} h w) = omega (arith, h, widths-texted w, length-append (e .text) (textOf es))
 
-module _ (s : List ℕ) (l : Layout) where
+module _ (t : Table) (s : List ℕ) (l : Layout) where
+  -- a table's mark is format's
+  width-is : (i : ℕ) → widthBy (t .words) s l i ≡ widthAt s l i
+  width-is i = ap (λ (b : Bool). textWidth b (valueAt s l i)) (t .texts-are (codeAt s l i))
+
   -- with room for the texts each is as long as its value says
-  pub entries-texted : (n at txt : ℕ) → l .text + txt + widthsOf (entriesAt s l at txt n) ≤ length s → WellTexted (entriesAt s l at txt n)
+  pub entries-texted : (n at txt : ℕ) → l .text + txt + widthsOf (entriesAt (t .words) s l at txt n) ≤ length s
+      → WellTexted (entriesAt (t .words) s l at txt n)
   entries-texted zero at txt h = all-nil
   entries-texted (suc n) at txt h =
-      all-cons (length-part s (l .text + txt) (widthAt s l at) (omega arith)) (entries-texted n (at + 1) (txt + widthAt s l at) (omega arith))
+      let w = width-is at in
+      all-cons (length-part s (l .text + txt) (widthBy (t .words) s l at) (omega arith) ∙ w)
+      (entries-texted n (at + 1) (txt + widthBy (t .words) s l at) (omega arith))
 
   -- entries that stand somewhere are those that are read there
   pub entries-stand : (at txt : ℕ) {es : List Entry} → WellTexted es → Values64 es → Stands s (l .codes) (l .values) (l .text) at txt es → (k : ℕ)
-      → entriesAt s l at txt (length es + k) ≡ es ++ entriesAt s l (at + length es) (txt + length (textOf es)) k
+      → entriesAt (t .words) s l at txt (length es + k) ≡ es ++ entriesAt (t .words) s l (at + length es) (txt + length (textOf es)) k
   unfolding textOf
   entries-stand at txt all-nil v h k = rw (zero-add, add-zero, add-zero)
   entries-stand at txt (all-cons {a = e} {l = es} w ws) v h k =
@@ -51,7 +59,19 @@ module _ (s : List ℕ) (l : Layout) where
       let x : valueAt s l at ≡ e .value = stands-value h .1 (all-head v) in
       let p : at + length (e ∷ es) ≡ at + 1 + length es = omega arith in
       let q : txt + length (textOf (e ∷ es)) ≡ txt + length (e .text) + length (textOf es) = omega (arith, length-append (e .text) (textOf es)) in
-      rw (n, p, q, c, x, ← w, stands-text h .spelled, entries-stand (at + 1) (txt + length (e .text)) ws (all-tail v) (stands-next h) k)
+      rw (n, p, q, c, x, t .texts-are (e .code), ← w, stands-text h .spelled, entries-stand (at + 1) (txt + length (e .text)) ws (all-tail v) (stands-next h) k)
+
+-- the values of a slice of bytes have 64 bits
+value-64 : (s : List ℕ) (l : Layout) (at : ℕ) → Bytes s → valueAt s l at < 256 ^ 8
+value-64 s l at h =
+    let x = part s (l .values + 8 * at) 8 in
+    let k : length x ≤ 8 = omega (arith, length-take 8 (drop (l .values + 8 * at) s)) in
+    lt-of-lt-of-le (fromLe-lt x (bytes-take 8 (drop (l .values + 8 * at) s) (bytes-drop (l .values + 8 * at) s h)))
+    (pow-le-pow-right {n = 256} (lit< tt) {i = length x} {j = 8} k)
+
+pub values-64 : (g s : List ℕ) (l : Layout) (n at txt : ℕ) → Bytes s → Values64 (entriesAt g s l at txt n)
+values-64 g s l zero at txt h = all-nil
+values-64 g s l (suc n) at txt h = all-cons (value-64 s l at h) (values-64 g s l n (at + 1) (txt + widthBy g s l at) h)
 
 -- ------------------------------------------------------------------ the sections of a tape
 
@@ -85,11 +105,11 @@ part-behind : (s : List ℕ) (i m n : ℕ) → i + m ≤ length s → drop m (pa
 part-behind s i m n h =
     rw (take-add m n (drop i s), drop-at (part s i m) (take n (drop m (drop i s))) m (length-part s i m h), drop-drop m i s)
 
-module _ (s : List ℕ) (l : Layout) where
+module _ (t : Table) (s : List ℕ) (l : Layout) where
   -- the sections are split into the entries that are read, if these take all text
   pub split-entries : (m at txt : ℕ) → l .codes + at + m ≤ length s → l .values + 8 * at + 8 * m ≤ length s
       → split (part s (l .codes + at) m) (part s (l .values + 8 * at) (8 * m)) (drop (l .text + txt) s)
-      ≡ pick (eqb (widthsOf (entriesAt s l at txt m)) (length (drop (l .text + txt) s))) (some (entriesAt s l at txt m)) none
+      ≡ pick (eqb (widthsOf (entriesAt (t .words) s l at txt m)) (length (drop (l .text + txt) s))) (some (entriesAt (t .words) s l at txt m)) none
   unfolding split
   split-entries zero at txt h₁ h₂ = go (drop (l .text + txt) s)
     where
@@ -99,13 +119,14 @@ module _ (s : List ℕ) (l : Layout) where
   split-entries (suc m) at txt h₁ h₂ =
       let n : 8 * suc m ≡ 8 + 8 * m = omega arith in
       let x = l .values + 8 * at in
-      let t = drop (l .text + txt) s in
+      let u = drop (l .text + txt) s in
+      let width = widthAt s l at in
       let c : l .codes + at + 1 ≡ l .codes + (at + 1) = omega arith in
       let v : x + 8 ≡ l .values + 8 * (at + 1) = omega arith in
-      let w : drop (widthAt s l at) t ≡ drop (l .text + (txt + widthAt s l at)) s =
-      drop-drop (widthAt s l at) (l .text + txt) s ∙ rw add-assoc in
-      rw (n, part-cons s (l .codes + at) m (omega arith), take-take 8 (8 + 8 * m) (drop x s) (omega arith))
-      (take-entry (codeAt s l at) (valueAt s l at) (widthAt s l at) (widthsOf (entriesAt s l (at + 1) (txt + widthAt s l at) m)) t
-      (λ u. split (part s (l .codes + at + 1) m) (drop 8 (part s x (8 + 8 * m))) u) (entriesAt s l (at + 1) (txt + widthAt s l at) m)
+      let w : drop width u ≡ drop (l .text + (txt + width)) s =
+      drop-drop width (l .text + txt) s ∙ rw add-assoc in
+      rw (width-is t s l at, n, part-cons s (l .codes + at) m (omega arith), take-take 8 (8 + 8 * m) (drop x s) (omega arith))
+      (take-entry (codeAt s l at) (valueAt s l at) width (widthsOf (entriesAt (t .words) s l (at + 1) (txt + width) m)) u
+      (λ y. split (part s (l .codes + at + 1) m) (drop 8 (part s x (8 + 8 * m))) y) (entriesAt (t .words) s l (at + 1) (txt + width) m)
       (rw (w, c, part-behind s x 8 (8 * m) (omega arith), v)
-      (split-entries m (at + 1) (txt + widthAt s l at) (omega arith) (omega arith))))
+      (split-entries m (at + 1) (txt + width) (omega arith) (omega arith))))

@@ -1,42 +1,52 @@
 -- The four roots of document 01, and what an accepted slice holds.
 -- Assumes nothing.
-use Prim.Native.Nat.{ℕ, zero, suc, _+_, _*_, _^_, _≤_, _<_, max}
+use Prim.Native.Nat.{ℕ, zero, suc, _+_, _*_, _≤_, _<_, max}
 use mathlib.Core.Path.{_≡_, refl, ap, sym, _∙_, subst}
 use mathlib.Core.Bool.{Bool, true, _&&_, and-true, and-assoc, and-comm}
 use mathlib.Core.List.{List, [], _∷_}
-use native.Mathlib.Nat.{add-zero, pow-le-pow-right, lt-of-lt-of-le}
+use native.Mathlib.Nat.{add-zero}
 use native.Mathlib.Omega.{arith}
-use lib.Dec.{T, leb, leb→le, le→leb, lit<}
-use lib.ListN.{length, drop, getD, length-take, length-drop}
+use lib.Dec.{T, leb, leb→le, le→leb}
+use lib.ListN.{length, drop, getD, length-drop}
 use lib.Seq.{drop-drop, take-all}
-use Rattle.format.specs.Entry.{encode, textOf}
+use Rattle.format.specs.Entry.{Entry, encode, textOf}
 use Rattle.format.specs.Ast.{MacroDef}
 use Rattle.format.specs.Limits.{isNode, isCall, deepCondition, deepCall, deepBody, fitsSizes, fitsDepths}
-use Rattle.format.specs.Stands.{part, Stands}
+use Rattle.format.specs.Stands.{Stands}
 use Rattle.format.specs.Tape.{Reading, Root, smallBody, smallBodies, conditionRoot, callRoot, definitionRoot, registryRoot, shortTexts, read, Bytes}
-use Rattle.format.proofs.Accepted.{Values64, InRange, accepted-on-tape, fromLe-lt, bytes-take, bytes-drop}
-use Rattle.format.proofs.All.{all-nil, all-cons}
+use Rattle.format.proofs.Accepted.{Values64, InRange, accepted-on-tape}
 use Rattle.format.proofs.Builds.{rooted-condition, rooted-call, rooted-definition, rooted-registry}
 use Rattle.format.proofs.Spells.{s-condition-root, s-call, s-definition, s-registry-root}
 use Rattle.format.proofs.Stands.{stands-encoded}
+use Rattle.grammar.specs.Grammar as sort
+use Rattle.grammar.specs.Words.{temporalWords}
+use Rattle.grammar.proofs.Marks.{longest-marks}
 use Rattle.tape.specs.Accept.{acceptOf}
-use Rattle.tape.specs.Header.{entriesOf, sizeOf}
-use Rattle.tape.specs.Layouts.{tapeLayout, valueAt, widthAt, entriesAt}
+use Rattle.tape.specs.Header.{entriesOf}
+use Rattle.tape.specs.Layouts.{tapeLayout}
 use Rattle.tape.specs.declared.header.Opened.{Opened}
 use Rattle.tape.specs.declared.header.Opened.the-variants.{Tape}
 use Rattle.tape.specs.declared.layout.Layout.{Layout}
 use Rattle.tape.proofs.Acceptance.{RootOf, Holds, Answers, answers-2, answers-3, answers-tape, answers}
+use Rattle.tape.proofs.Passing.{shortIn}
 use Rattle.tape.proofs.Runs.{place, Run}
 use Rattle.format.proofs.Tests.{and-left, and-right, and-both, same-test}
 use Rattle.tape.proofs.Trees.{passes-condition, passes-call, passes-definition, deepBodies, fewParams, passes-registry}
 
+-- the texts that are short by the table's marks are those that are short
+short-texts : (es : List Entry) → shortIn temporalWords 64 es ≡ shortTexts es
+unfolding shortTexts
+short-texts [] = refl
+short-texts (e ∷ es) = rw (longest-marks (e .code), short-texts es)
+
 -- ------------------------------------------------------------------ condition, call and definition
 
-pub condition-root : RootOf conditionRoot 1
+pub condition-root : RootOf conditionRoot sort.condition
 unfolding conditionRoot fitsDepths
 condition-root =
     record {
       is-sort = omega arith;
+      is-limited = refl;
       tree = λ x. x;
       spelled = λ x. refl;
       sound = s-condition-root;
@@ -44,15 +54,16 @@ condition-root =
       deep = λ c p. deepCondition p c;
       listed = λ c. true;
       passes = passes-condition;
-      short = λ es. refl;
+      short = short-texts;
       limits = λ c. ap (λ (b : Bool). leb (deepCondition isNode c) 64 && b) (and-true (leb (deepCondition isCall c) 4));
     }
 
-pub call-root : RootOf callRoot 11
+pub call-root : RootOf callRoot sort.call
 unfolding callRoot fitsDepths
 call-root =
     record {
       is-sort = omega arith;
+      is-limited = refl;
       tree = λ x. x;
       spelled = λ x. refl;
       sound = s-call;
@@ -60,15 +71,16 @@ call-root =
       deep = λ c p. deepCall p c;
       listed = λ c. true;
       passes = passes-call;
-      short = λ es. refl;
+      short = short-texts;
       limits = λ c. ap (λ (b : Bool). leb (deepCall isNode c) 64 && b) (and-true (leb (deepCall isCall c) 4));
     }
 
-pub definition-root : RootOf definitionRoot 14
+pub definition-root : RootOf definitionRoot sort.definition
 unfolding definitionRoot smallBody fitsDepths
 definition-root =
     record {
       is-sort = omega arith;
+      is-limited = refl;
       tree = λ x. x;
       spelled = λ x. refl;
       sound = s-definition;
@@ -76,7 +88,7 @@ definition-root =
       deep = λ d p. deepBody p (d .body);
       listed = λ d. leb (length (d .params)) 16;
       passes = passes-definition;
-      short = λ es. refl;
+      short = short-texts;
       limits = λ d.
           let nodes = leb (deepBody isNode (d .body)) 64 in
           let calls = leb (deepBody isCall (d .body)) 4 in
@@ -120,11 +132,12 @@ small-bodies (d ∷ ds) =
     (and-both (leb (max b b′) 4) _ (le→leb (max b b′) 4 (omega arith))
     (and-both few _ (and-left few _ u) (and-right (leb b′ 4) _ x)))))
 
-pub registry-root : RootOf registryRoot 24
+pub registry-root : RootOf registryRoot sort.definitions
 unfolding registryRoot
 registry-root =
     record {
       is-sort = omega arith;
+      is-limited = refl;
       tree = λ x. x;
       spelled = λ x. refl;
       sound = s-registry-root;
@@ -132,22 +145,11 @@ registry-root =
       deep = λ ds p. deepBodies p ds;
       listed = fewParams;
       passes = passes-registry;
-      short = λ es. refl;
+      short = short-texts;
       limits = small-bodies;
     }
 
 -- ------------------------------------------------------------------ what an accepted slice holds
-
-value-64 : (s : List ℕ) (l : Layout) (at : ℕ) → Bytes s → valueAt s l at < 256 ^ 8
-value-64 s l at h =
-    let x = part s (l .values + 8 * at) 8 in
-    let k : length x ≤ 8 = omega (arith, length-take 8 (drop (l .values + 8 * at) s)) in
-    lt-of-lt-of-le (fromLe-lt x (bytes-take 8 (drop (l .values + 8 * at) s) (bytes-drop (l .values + 8 * at) s h)))
-    (pow-le-pow-right {n = 256} (lit< tt) {i = length x} {j = 8} k)
-
-values-64 : (s : List ℕ) (l : Layout) (n at txt : ℕ) → Bytes s → Values64 (entriesAt s l at txt n)
-values-64 s l zero at txt h = all-nil
-values-64 s l (suc n) at txt h = all-cons (value-64 s l at h) (values-64 s l n (at + 1) (txt + widthAt s l at) h)
 
 -- A slice that was accepted, its layout and its tree.
 pub record Accepted {A : Type 0} (root : Root A) (s : List ℕ) (l : Layout) (a : A) : Type 0 where
@@ -169,8 +171,7 @@ module _ {A : Type 0} {root : Root A} {sort : ℕ} (r : RootOf root sort) (s : L
       let n = h .entries-count in
       let t = h .text-count in
       let l = tapeLayout (length es) (length (textOf es)) in
-      let values : Values64 es = rw (h .entries-are)
-      (values-64 s (tapeLayout (entriesOf s) (sizeOf s)) (entriesOf s) 0 0 bytes) in
+      let values : Values64 es = h .values-are bytes in
       let stands : Stands s 8 (8 + length es) (8 + 9 * length es) 0 0 es = rw whole at (stands-encoded es) in
       let i = 8 + 9 * length es in
       let text : drop (9 * entriesOf s) (drop 8 s) ≡ textOf es =
@@ -194,8 +195,8 @@ module _ {A : Type 0} {root : Root A} {sort : ℕ} (r : RootOf root sort) (s : L
           small-values = values;
         };
         in-range = record { values = values; sizes = fit; text = rw (← text) (h .printing) };
-        short = and-left (shortTexts es) _ (h .keeping);
-        small = and-right (shortTexts es) _ (h .keeping);
+        short = rw (← (short-texts es), r .short es) (and-left (root .texts es) _ (h .keeping));
+        small = and-right (root .texts es) _ (h .keeping);
       }
 
   pub accepted-root : (l : Layout) → acceptOf s sort ≡ Tape l → (a : A) × Accepted root s l a

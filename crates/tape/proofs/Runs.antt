@@ -11,19 +11,20 @@ use lib.Dec.{leb, leb→le, le→leb}
 use lib.ListN.{length, length-append}
 use Rattle.definition.specs.Size.{size}
 use Rattle.format.specs.Entry.{Entry, entry, codesOf, textOf}
-use Rattle.format.specs.Limits.{isNode, isCall, fitsDepths}
+use Rattle.format.specs.Limits.{fitsDepths}
 use Rattle.format.specs.Stands.{Stands}
 use Rattle.format.proofs.Accepted.{length-codes, Values64}
 use Rattle.format.proofs.All.{all-left, all-right, all-head}
 use Rattle.format.proofs.Stands.{text-append, stands-front, stands-back, stands-code, stands-value}
 use Rattle.tape.specs.Layouts.{layout, areaLayout, Held, holds, codeAt, valueAt, entriesAt, sizeBetween}
-use Rattle.tape.specs.Scan.{scanOf, starts, scanAt, behind, skipAt, overOf, tooDeep}
+use Rattle.grammar.proofs.Marks.{Table}
+use Rattle.tape.specs.Scan.{scanOf, starts, scanAt, behind, skipIn, overOf, tooDeepIn}
 use Rattle.tape.specs.declared.layout.Layout.{Layout}
 use Rattle.tape.specs.declared.layout.Place.{Place}
 use Rattle.tape.specs.declared.scan.Scanned.the-variants.{Ends}
 use Rattle.tape.specs.declared.scan.Skipped.the-variants.{At}
 use Rattle.tape.proofs.Holding.{holding, starting}
-use Rattle.tape.proofs.Passing.{Passes, reported}
+use Rattle.tape.proofs.Passing.{PassesBy, reported}
 use Rattle.tape.proofs.Places.{entries-stand}
 use Rattle.format.proofs.Tests.{and-left, and-right, and-both, is-true}
 
@@ -79,10 +80,10 @@ module _ {s : List ℕ} {l : Layout} {p : Place} where
 
 -- ------------------------------------------------------------------ the scan of a run
 
-module _ {s : List ℕ} {l : Layout} {p : Place} {es : List Entry} {sort : ℕ} {d : (ℕ → Bool) → ℕ} {x : Bool} where
-  scan-run : (b : Passes (sort ∷ []) es d x) → sort < 25 → Run s l p es → (limited : Bool)
-      → scanAt s l p sort limited ≡ Ends (place (p .at + length es) (p .text + length (textOf es))) (b .over limited 0 0)
-  scan-run b h r limited =
+module _ {t : Table} {s : List ℕ} {l : Layout} {p : Place} {es : List Entry} {sort : ℕ} {d : (ℕ → Bool) → ℕ} {x : Bool} where
+  scan-run : (b : PassesBy t (sort ∷ []) es d x) → sort < 32 → Run s l p es → (longest : ℕ)
+      → scanAt (t .words) s l p sort longest ≡ Ends (place (p .at + length es) (p .text + length (textOf es))) (b .over longest 0 0)
+  scan-run b h r longest =
       let starts-there : starts s l p sort ≡ true =
       is-true (starting s l p sort (record {
         held = r .held;
@@ -92,33 +93,35 @@ module _ {s : List ℕ} {l : Layout} {p : Place} {es : List Entry} {sort : ℕ} 
       })) in
       let k = l .entries - p .at - length es in
       let n : l .entries - p .at ≡ length es + k = omega (arith, r .entries-left) in
-      let rest = entriesAt s l (p .at + length es) (p .text + length (textOf es)) k in
-      rw (starts-there, n, entries-stand s l (p .at) (p .text) (b .texted) (r .small-values) (r .stands) k)
-      (b .run limited (l .size) 0 0 [] rest (p .at) (p .text) false (omega arith) (omega arith) (r .text-left) ∙ stops limited rest)
+      let rest = entriesAt (t .words) s l (p .at + length es) (p .text + length (textOf es)) k in
+      rw (starts-there, n, entries-stand t s l (p .at) (p .text) (b .texted) (r .small-values) (r .stands) k)
+      (b .run longest (l .size) 0 0 [] rest (p .at) (p .text) false (omega arith) (omega arith) (r .text-left) ∙ stops rest)
     where
-      stops : (limited : Bool) (rest : List Entry) {at text : ℕ} {o : Bool} → scanOf limited (l .size) rest [] at text o ≡ Ends (place at text) o
-      stops limited [] = refl
-      stops limited (e ∷ more) = refl
+      stops : (rest : List Entry) {at text : ℕ} {o : Bool} → scanOf (t .words) longest (l .size) rest [] at text o ≡ Ends (place at text) o
+      stops [] = refl
+      stops (e ∷ more) = refl
 
   -- to skip a tree is to come to the place behind it
-  pub skip-run : Passes (sort ∷ []) es d x → sort < 25 → Run s l p es
-      → skipAt s l p sort ≡ At (place (p .at + length es) (p .text + length (textOf es)))
-  skip-run b h r = ap behind (scan-run b h r false)
+  pub skip-run : PassesBy t (sort ∷ []) es d x → sort < 32 → Run s l p es
+      → skipIn (t .words) s l p sort ≡ At (place (p .at + length es) (p .text + length (textOf es)))
+  skip-run b h r = ap behind (scan-run b h r 0)
 
 -- a tree at the start of a layout is too deep if it passes the limits on depths
-pub deep-run : {s : List ℕ} {l : Layout} {es : List Entry} {sort : ℕ} {d : (ℕ → Bool) → ℕ} → Passes (sort ∷ []) es d true → sort < 25
-    → Run s l (place 0 0) es → tooDeep s l sort ≡ not (fitsDepths (d isNode) (d isCall))
+pub deep-run : {t : Table} {s : List ℕ} {l : Layout} {es : List Entry} {sort : ℕ} {d : (ℕ → Bool) → ℕ} → PassesBy t (sort ∷ []) es d true
+    → sort < 32 → Run s l (place 0 0) es → tooDeepIn (t .words) s l sort ≡ not (fitsDepths (d (t .nodes)) (d (t .calls)))
 unfolding fitsDepths
-deep-run {d = d} b h r =
-    ap overOf (scan-run b h r false)
-    ∙ reported (leb (d isNode) 64 && leb (d isCall) 4) (b .says false 0 0 (omega arith) (omega arith))
-    (λ t. record {
-      nodes-keep = omega (arith, leb→le (d isNode) 64 (and-left (leb (d isNode) 64) _ t));
-      calls-keep = omega (arith, leb→le (d isCall) 4 (and-right (leb (d isNode) 64) _ t));
+deep-run {t} {d = d} b h r =
+    let nodes = d (t .nodes) in
+    let calls = d (t .calls) in
+    ap overOf (scan-run b h r 0)
+    ∙ reported (leb nodes 64 && leb calls 4) (b .says 0 0 0 (omega arith) (omega arith))
+    (λ u. record {
+      nodes-keep = omega (arith, leb→le nodes 64 (and-left (leb nodes 64) _ u));
+      calls-keep = omega (arith, leb→le calls 4 (and-right (leb nodes 64) _ u));
       listed-keep = tt;
       texts-keep = tt;
     })
-    (λ k. and-both (leb (d isNode) 64) _ (le→leb (d isNode) 64 (omega (arith, k .nodes-keep))) (le→leb (d isCall) 4 (omega (arith, k .calls-keep))))
+    (λ k. and-both (leb nodes 64) _ (le→leb nodes 64 (omega (arith, k .nodes-keep))) (le→leb calls 4 (omega (arith, k .calls-keep))))
 
 -- ------------------------------------------------------------------ the size of a run
 

@@ -33,12 +33,14 @@ use Rattle.format.specs.Flat.{flatTexts, flatUnit, flatInterval, flatWithin, fl
 use Rattle.format.specs.Limits.{isNode, isCall, weigh, deepCondition, deepTerm, deepAgg, deepCall, deepArg, deepArgs, deepFields, deepTerms, deepBody}
 use Rattle.format.specs.Macro.{isCode}
 use Rattle.format.specs.Tape.{isText, textWidth}
+use Rattle.grammar.specs.Grammar as sort
 use Rattle.grammar.specs.Waits.{valued}
+use Rattle.grammar.specs.Words.{temporalWords, followsOf}
 use Rattle.tape.proofs.Passing.{not-ltb, Passes, none, _then_, _before_, node, tip, plain}
 
 -- to unfold this is to unfold what decides an entry of a known code
 decides : Unit {0}
-unfolding isNode isCall weigh isText isCode textWidth
+unfolding isNode isCall weigh isText isCode textWidth temporalWords followsOf
 decides = tt
 
 -- ------------------------------------------------------------------ parts in which nothing is deep
@@ -46,59 +48,59 @@ decides = tt
 abbrev pub Shallow : List ℕ → List Entry → Type 0
 Shallow ss es = Passes ss es (λ p. 0) true
 
-pub passes-text : (t : Text) → Shallow (4 ∷ []) (textEntry 40 t ∷ [])
+pub passes-text : (t : Text) → Shallow (sort.text ∷ []) (textEntry 40 t ∷ [])
 unfolding decides
-passes-text t = plain 4 (textEntry 40 t) refl refl refl refl none
+passes-text t = plain sort.text (textEntry 40 t) refl refl refl refl none
 
-each-text : (ts : List Text) → Shallow (replicate (length ts) 4) (flatTexts ts)
+each-text : (ts : List Text) → Shallow (replicate (length ts) sort.text) (flatTexts ts)
 unfolding flatTexts
 each-text [] = none
 each-text (t ∷ ts) = passes-text t before each-text ts
 
-pub passes-texts : (ts : List Text) → Shallow (19 ∷ []) (entry 41 (length ts) ∷ flatTexts ts)
+pub passes-texts : (ts : List Text) → Shallow (sort.texts ∷ []) (entry 41 (length ts) ∷ flatTexts ts)
 unfolding decides
-passes-texts ts = plain 19 (entry 41 (length ts)) refl refl refl refl (each-text ts)
+passes-texts ts = plain sort.texts (entry 41 (length ts)) refl refl refl refl (each-text ts)
 
-pub passes-span : (s : ℕ) → Shallow (5 ∷ []) (entry 42 s ∷ [])
+pub passes-span : (s : ℕ) → Shallow (sort.span ∷ []) (entry 42 s ∷ [])
 unfolding decides
-passes-span s = plain 5 (entry 42 s) refl refl refl refl none
+passes-span s = plain sort.span (entry 42 s) refl refl refl refl none
 
-pub passes-slot : (v : BinderSlot) → Shallow (6 ∷ []) (flatSlot v ∷ [])
+pub passes-slot : (v : BinderSlot) → Shallow (sort.slot ∷ []) (flatSlot v ∷ [])
 unfolding decides flatSlot
-passes-slot (BinderSlot.Name n) = plain 6 (textEntry 43 n) refl refl refl refl none
-passes-slot (BinderSlot.ParamRef n) = plain 6 (textEntry 44 n) refl refl refl refl none
-passes-slot (BinderSlot.BinderRef n) = plain 6 (textEntry 45 n) refl refl refl refl none
+passes-slot (BinderSlot.Name n) = plain sort.slot (textEntry 43 n) refl refl refl refl none
+passes-slot (BinderSlot.ParamRef n) = plain sort.slot (textEntry 44 n) refl refl refl refl none
+passes-slot (BinderSlot.BinderRef n) = plain sort.slot (textEntry 45 n) refl refl refl refl none
 
-pub passes-type : (t : BinderType) → Shallow (7 ∷ []) (flatType t)
+pub passes-type : (t : BinderType) → Shallow (sort.type ∷ []) (flatType t)
 unfolding decides flatType
-passes-type BinderType.Timepoint = plain 7 (entry 46 0) refl refl refl refl none
-passes-type (BinderType.Named path) = plain 7 (entry 47 (length path)) refl refl refl refl (each-text path)
+passes-type BinderType.Timepoint = plain sort.type (entry 46 0) refl refl refl refl none
+passes-type (BinderType.Named path) = plain sort.type (entry 47 (length path)) refl refl refl refl (each-text path)
 
-pub passes-interval : (i : Interval) → Shallow (9 ∷ []) (flatInterval i ∷ [])
+pub passes-interval : (i : Interval) → Shallow (sort.interval ∷ []) (flatInterval i ∷ [])
 unfolding decides flatInterval flatUnit
 passes-interval i = go (i .unit)
   where
-    go : (u : TimeUnit) → Shallow (9 ∷ []) (entry (flatUnit u) (i .amount) ∷ [])
-    go TimeUnit.Seconds = plain 9 (entry 48 (i .amount)) refl refl refl refl none
-    go TimeUnit.Minutes = plain 9 (entry 49 (i .amount)) refl refl refl refl none
-    go TimeUnit.Hours = plain 9 (entry 50 (i .amount)) refl refl refl refl none
-    go TimeUnit.Days = plain 9 (entry 51 (i .amount)) refl refl refl refl none
+    go : (u : TimeUnit) → Shallow (sort.interval ∷ []) (entry (flatUnit u) (i .amount) ∷ [])
+    go TimeUnit.Seconds = plain sort.interval (entry 48 (i .amount)) refl refl refl refl none
+    go TimeUnit.Minutes = plain sort.interval (entry 49 (i .amount)) refl refl refl refl none
+    go TimeUnit.Hours = plain sort.interval (entry 50 (i .amount)) refl refl refl refl none
+    go TimeUnit.Days = plain sort.interval (entry 51 (i .amount)) refl refl refl refl none
 
-pub passes-within : (w : WithinSpec) → Shallow (8 ∷ []) (flatWithin w ∷ [])
+pub passes-within : (w : WithinSpec) → Shallow (sort.within ∷ []) (flatWithin w ∷ [])
 unfolding decides flatWithin flatInterval flatUnit
-passes-within (WithinSpec.ParamRef n) = plain 8 (textEntry 52 n) refl refl refl refl none
+passes-within (WithinSpec.ParamRef n) = plain sort.within (textEntry 52 n) refl refl refl refl none
 passes-within (WithinSpec.Concrete i) = go (i .unit)
   where
-    go : (u : TimeUnit) → Shallow (8 ∷ []) (entry (flatUnit u) (i .amount) ∷ [])
-    go TimeUnit.Seconds = plain 8 (entry 48 (i .amount)) refl refl refl refl none
-    go TimeUnit.Minutes = plain 8 (entry 49 (i .amount)) refl refl refl refl none
-    go TimeUnit.Hours = plain 8 (entry 50 (i .amount)) refl refl refl refl none
-    go TimeUnit.Days = plain 8 (entry 51 (i .amount)) refl refl refl refl none
+    go : (u : TimeUnit) → Shallow (sort.within ∷ []) (entry (flatUnit u) (i .amount) ∷ [])
+    go TimeUnit.Seconds = plain sort.within (entry 48 (i .amount)) refl refl refl refl none
+    go TimeUnit.Minutes = plain sort.within (entry 49 (i .amount)) refl refl refl refl none
+    go TimeUnit.Hours = plain sort.within (entry 50 (i .amount)) refl refl refl refl none
+    go TimeUnit.Days = plain sort.within (entry 51 (i .amount)) refl refl refl refl none
 
-passes-sigil : (g : Sigil) (n : Text) → Shallow (13 ∷ []) (textEntry (flatSigil g) n ∷ [])
+passes-sigil : (g : Sigil) (n : Text) → Shallow (sort.sigil ∷ []) (textEntry (flatSigil g) n ∷ [])
 unfolding decides flatSigil
-passes-sigil Sigil.Param n = plain 13 (textEntry 58 n) refl refl refl refl none
-passes-sigil Sigil.Binder n = plain 13 (textEntry 59 n) refl refl refl refl none
+passes-sigil Sigil.Param n = plain sort.sigil (textEntry 58 n) refl refl refl refl none
+passes-sigil Sigil.Binder n = plain sort.sigil (textEntry 59 n) refl refl refl refl none
 
 cmp-valued : (op : CmpOp) → valued 6 (flatCmp op) ≡ true
 unfolding flatCmp
@@ -120,136 +122,136 @@ unfolding flatBool
 bool-valued false = refl
 bool-valued true = refl
 
-passes-cmp : (op : CmpOp) → Shallow (10 ∷ []) (entry 53 (flatCmp op) ∷ [])
+passes-cmp : (op : CmpOp) → Shallow (sort.operator ∷ []) (entry 53 (flatCmp op) ∷ [])
 unfolding decides
-passes-cmp op = plain 10 (entry 53 (flatCmp op)) (cmp-valued op) refl refl refl none
+passes-cmp op = plain sort.operator (entry 53 (flatCmp op)) (cmp-valued op) refl refl refl none
 
-passes-binder : (b : TypedBinder) → Shallow (18 ∷ []) (flatBinder b)
+passes-binder : (b : TypedBinder) → Shallow (sort.binding ∷ []) (flatBinder b)
 unfolding decides flatBinder flatSlot
 passes-binder b = go (b .slot)
   where
-    go : (v : BinderSlot) → Shallow (18 ∷ []) (flatSlot v ∷ flatType (b .ty))
-    go (BinderSlot.Name n) = plain 18 (textEntry 43 n) refl refl refl refl (passes-type (b .ty))
-    go (BinderSlot.ParamRef n) = plain 18 (textEntry 44 n) refl refl refl refl (passes-type (b .ty))
-    go (BinderSlot.BinderRef n) = plain 18 (textEntry 45 n) refl refl refl refl (passes-type (b .ty))
+    go : (v : BinderSlot) → Shallow (sort.binding ∷ []) (flatSlot v ∷ flatType (b .ty))
+    go (BinderSlot.Name n) = plain sort.binding (textEntry 43 n) refl refl refl refl (passes-type (b .ty))
+    go (BinderSlot.ParamRef n) = plain sort.binding (textEntry 44 n) refl refl refl refl (passes-type (b .ty))
+    go (BinderSlot.BinderRef n) = plain sort.binding (textEntry 45 n) refl refl refl refl (passes-type (b .ty))
 
-each-binder : (bs : List TypedBinder) → Shallow (replicate (length bs) 18) (flatBinders bs)
+each-binder : (bs : List TypedBinder) → Shallow (replicate (length bs) sort.binding) (flatBinders bs)
 unfolding flatBinders
 each-binder [] = none
 each-binder (b ∷ bs) = passes-binder b before each-binder bs
 
-pub passes-binders : (bs : List TypedBinder) → Shallow (21 ∷ []) (entry 41 (length bs) ∷ flatBinders bs)
+pub passes-binders : (bs : List TypedBinder) → Shallow (sort.bindings ∷ []) (entry 41 (length bs) ∷ flatBinders bs)
 unfolding decides
-passes-binders bs = plain 21 (entry 41 (length bs)) refl refl refl refl (each-binder bs)
+passes-binders bs = plain sort.bindings (entry 41 (length bs)) refl refl refl refl (each-binder bs)
 
 -- ------------------------------------------------------------------ the trees
 
 -- lists with their 41
-list-args : (args : CallArgs) {d : (ℕ → Bool) → ℕ} → Passes (replicate (lengthArgs args) 12) (flatArgs args) d true
-    → Passes (22 ∷ []) (entry 41 (lengthArgs args) ∷ flatArgs args) d true
+list-args : (args : CallArgs) {d : (ℕ → Bool) → ℕ} → Passes (replicate (lengthArgs args) sort.argument) (flatArgs args) d true
+    → Passes (sort.arguments ∷ []) (entry 41 (lengthArgs args) ∷ flatArgs args) d true
 unfolding decides
-list-args args b = plain 22 (entry 41 (lengthArgs args)) refl refl refl refl b
+list-args args b = plain sort.arguments (entry 41 (lengthArgs args)) refl refl refl refl b
 
-list-fields : (fs : NamedArgs) {d : (ℕ → Bool) → ℕ} → Passes (replicate (lengthFields fs) 16) (flatFields fs) d true
-    → Passes (20 ∷ []) (entry 41 (lengthFields fs) ∷ flatFields fs) d true
+list-fields : (fs : NamedArgs) {d : (ℕ → Bool) → ℕ} → Passes (replicate (lengthFields fs) sort.field) (flatFields fs) d true
+    → Passes (sort.fields ∷ []) (entry 41 (lengthFields fs) ∷ flatFields fs) d true
 unfolding decides
-list-fields fs b = plain 20 (entry 41 (lengthFields fs)) refl refl refl refl b
+list-fields fs b = plain sort.fields (entry 41 (lengthFields fs)) refl refl refl refl b
 
 mutual
   unfolding decides flatBinder flatCondition lengthTerms lengthFields lengthArgs deepCondition
 
-  pub passes-condition : (c : Condition) → Passes (1 ∷ []) (flatCondition c) (λ p. deepCondition p c) true
-  passes-condition (Condition.And s l r) = node 1 (entry 1 s) refl refl (passes-condition l then passes-condition r)
-  passes-condition (Condition.Or s l r) = node 1 (entry 2 s) refl refl (passes-condition l then passes-condition r)
-  passes-condition (Condition.Not s c) = node 1 (entry 3 s) refl refl (passes-condition c)
-  passes-condition (Condition.Formerly s w c) = node 1 (entry 4 s) refl refl (passes-within w before passes-condition c)
-  passes-condition (Condition.Previous s w c) = node 1 (entry 5 s) refl refl (passes-within w before passes-condition c)
+  pub passes-condition : (c : Condition) → Passes (sort.condition ∷ []) (flatCondition c) (λ p. deepCondition p c) true
+  passes-condition (Condition.And s l r) = node sort.condition (entry 1 s) refl refl (passes-condition l then passes-condition r)
+  passes-condition (Condition.Or s l r) = node sort.condition (entry 2 s) refl refl (passes-condition l then passes-condition r)
+  passes-condition (Condition.Not s c) = node sort.condition (entry 3 s) refl refl (passes-condition c)
+  passes-condition (Condition.Formerly s w c) = node sort.condition (entry 4 s) refl refl (passes-within w before passes-condition c)
+  passes-condition (Condition.Previous s w c) = node sort.condition (entry 5 s) refl refl (passes-within w before passes-condition c)
   passes-condition (Condition.Since s l w r) =
-      node 1 (entry 6 s) refl refl (passes-condition l then passes-within w before passes-condition r)
+      node sort.condition (entry 6 s) refl refl (passes-condition l then passes-within w before passes-condition r)
   passes-condition (Condition.Predicate s o ns a k fs) =
-      node 1 (entry 7 s) refl refl (passes-span o before passes-texts ns before passes-text a before passes-text k before
+      node sort.condition (entry 7 s) refl refl (passes-span o before passes-texts ns before passes-text a before passes-text k before
       list-fields fs (each-field fs))
   passes-condition (Condition.Comparison s op l r) =
-      node 1 (entry 8 s) refl refl (passes-cmp op before passes-term l then passes-term r)
+      node sort.condition (entry 8 s) refl refl (passes-cmp op before passes-term l then passes-term r)
   passes-condition (Condition.Exists s b c) =
-      node 1 (entry 9 s) refl refl (passes-slot (b .slot) before passes-type (b .ty) before passes-condition c)
-  passes-condition (Condition.Tp s v) = tip 1 (entry 10 s) refl refl (passes-slot v)
-  passes-condition (Condition.ConditionCall s c) = node 1 (entry 11 s) refl refl (passes-call c)
-  passes-condition (Condition.SigilRef s g n) = tip 1 (entry 12 s) refl refl (passes-sigil g n)
+      node sort.condition (entry 9 s) refl refl (passes-slot (b .slot) before passes-type (b .ty) before passes-condition c)
+  passes-condition (Condition.Tp s v) = tip sort.condition (entry 10 s) refl refl (passes-slot v)
+  passes-condition (Condition.ConditionCall s c) = node sort.condition (entry 11 s) refl refl (passes-call c)
+  passes-condition (Condition.SigilRef s g n) = tip sort.condition (entry 12 s) refl refl (passes-sigil g n)
   passes-condition (Condition.Refine s o c fs) =
-      node 1 (entry 13 s) refl refl (passes-span o before passes-condition c then list-fields fs (each-field fs))
+      node sort.condition (entry 13 s) refl refl (passes-span o before passes-condition c then list-fields fs (each-field fs))
 
-  pub passes-term : (t : Term) → Passes (2 ∷ []) (flatTerm t) (λ p. deepTerm p t) true
-  passes-term (Term.Entity ty id) = tip 2 (entry 20 0) refl refl (passes-text ty before passes-text id)
-  passes-term (Term.Integer n) = tip 2 (entry 21 n) refl refl none
-  passes-term (Term.Decimal t) = tip 2 (textEntry 22 t) refl refl none
-  passes-term (Term.String t) = tip 2 (textEntry 23 t) refl refl none
-  passes-term (Term.Bool b) = tip 2 (entry 24 (flatBool b)) (bool-valued b) refl none
-  passes-term (Term.ContextField path) = tip 2 (entry 25 (length path)) refl refl (each-text path)
-  passes-term (Term.ScopeField path) = tip 2 (entry 26 (length path)) refl refl (each-text path)
-  passes-term (Term.Var n) = tip 2 (textEntry 27 n) refl refl none
-  passes-term Term.Wildcard = tip 2 (entry 28 0) refl refl none
-  passes-term (Term.Array ts) = node 2 (entry 29 (lengthTerms ts)) refl refl (each-term ts)
-  passes-term (Term.Agg a) = node 2 (entry 30 0) refl refl (passes-agg a)
-  passes-term (Term.Arith op l r) = node 2 (entry 31 (flatArith op)) (arith-valued op) refl (passes-term l then passes-term r)
-  passes-term (Term.ParamRef n) = tip 2 (textEntry 32 n) refl refl none
-  passes-term (Term.BinderRef n) = tip 2 (textEntry 33 n) refl refl none
+  pub passes-term : (t : Term) → Passes (sort.term ∷ []) (flatTerm t) (λ p. deepTerm p t) true
+  passes-term (Term.Entity ty id) = tip sort.term (entry 20 0) refl refl (passes-text ty before passes-text id)
+  passes-term (Term.Integer n) = tip sort.term (entry 21 n) refl refl none
+  passes-term (Term.Decimal t) = tip sort.term (textEntry 22 t) refl refl none
+  passes-term (Term.String t) = tip sort.term (textEntry 23 t) refl refl none
+  passes-term (Term.Bool b) = tip sort.term (entry 24 (flatBool b)) (bool-valued b) refl none
+  passes-term (Term.ContextField path) = tip sort.term (entry 25 (length path)) refl refl (each-text path)
+  passes-term (Term.ScopeField path) = tip sort.term (entry 26 (length path)) refl refl (each-text path)
+  passes-term (Term.Var n) = tip sort.term (textEntry 27 n) refl refl none
+  passes-term Term.Wildcard = tip sort.term (entry 28 0) refl refl none
+  passes-term (Term.Array ts) = node sort.term (entry 29 (lengthTerms ts)) refl refl (each-term ts)
+  passes-term (Term.Agg a) = node sort.term (entry 30 0) refl refl (passes-agg a)
+  passes-term (Term.Arith op l r) = node sort.term (entry 31 (flatArith op)) (arith-valued op) refl (passes-term l then passes-term r)
+  passes-term (Term.ParamRef n) = tip sort.term (textEntry 32 n) refl refl none
+  passes-term (Term.BinderRef n) = tip sort.term (textEntry 33 n) refl refl none
 
-  pub passes-agg : (a : AggExpr) → Passes (3 ∷ []) (flatAgg a) (λ p. deepAgg p a) true
+  pub passes-agg : (a : AggExpr) → Passes (sort.aggregate ∷ []) (flatAgg a) (λ p. deepAgg p a) true
   passes-agg (AggExpr.Sum s v bs c) =
-      node 3 (entry 34 s) refl refl (passes-slot v before passes-binders bs before passes-condition c)
-  passes-agg (AggExpr.Count s bs c) = node 3 (entry 35 s) refl refl (passes-binders bs before passes-condition c)
-  passes-agg (AggExpr.AggCall s c) = node 3 (entry 36 s) refl refl (passes-call c)
+      node sort.aggregate (entry 34 s) refl refl (passes-slot v before passes-binders bs before passes-condition c)
+  passes-agg (AggExpr.Count s bs c) = node sort.aggregate (entry 35 s) refl refl (passes-binders bs before passes-condition c)
+  passes-agg (AggExpr.AggCall s c) = node sort.aggregate (entry 36 s) refl refl (passes-call c)
 
-  pub passes-call : (c : Call) → Passes (11 ∷ []) (flatCall c) (λ p. deepCall p c) true
-  passes-call (Call.MacroCall s n args) = node 11 (entry 54 s) refl refl (passes-text n before list-args args (each-arg args))
+  pub passes-call : (c : Call) → Passes (sort.call ∷ []) (flatCall c) (λ p. deepCall p c) true
+  passes-call (Call.MacroCall s n args) = node sort.call (entry 54 s) refl refl (passes-text n before list-args args (each-arg args))
 
-  pub passes-arg : (a : CallArg) → Passes (12 ∷ []) (flatArg a) (λ p. deepArg p a) true
-  passes-arg (CallArg.ConditionArg c) = plain 12 (entry 55 0) refl refl refl refl (passes-condition c)
-  passes-arg (CallArg.TermArg t) = plain 12 (entry 56 0) refl refl refl refl (passes-term t)
-  passes-arg (CallArg.WithinArg i) = plain 12 (entry 57 0) refl refl refl refl (passes-interval i)
+  pub passes-arg : (a : CallArg) → Passes (sort.argument ∷ []) (flatArg a) (λ p. deepArg p a) true
+  passes-arg (CallArg.ConditionArg c) = plain sort.argument (entry 55 0) refl refl refl refl (passes-condition c)
+  passes-arg (CallArg.TermArg t) = plain sort.argument (entry 56 0) refl refl refl refl (passes-term t)
+  passes-arg (CallArg.WithinArg i) = plain sort.argument (entry 57 0) refl refl refl refl (passes-interval i)
 
-  each-arg : (args : CallArgs) → Passes (replicate (lengthArgs args) 12) (flatArgs args) (λ p. deepArgs p args) true
+  each-arg : (args : CallArgs) → Passes (replicate (lengthArgs args) sort.argument) (flatArgs args) (λ p. deepArgs p args) true
   each-arg CallArgs.noArgs = none
   each-arg (CallArgs.consArg a rest) = passes-arg a then each-arg rest
 
-  each-field : (fs : NamedArgs) → Passes (replicate (lengthFields fs) 16) (flatFields fs) (λ p. deepFields p fs) true
+  each-field : (fs : NamedArgs) → Passes (replicate (lengthFields fs) sort.field) (flatFields fs) (λ p. deepFields p fs) true
   each-field NamedArgs.noFields = none
-  each-field (NamedArgs.consField n t fs) = plain 16 (textEntry 40 n) refl refl refl refl (passes-term t) then each-field fs
+  each-field (NamedArgs.consField n t fs) = plain sort.field (textEntry 40 n) refl refl refl refl (passes-term t) then each-field fs
 
-  each-term : (ts : Terms) → Passes (replicate (lengthTerms ts) 2) (flatTerms ts) (λ p. deepTerms p ts) true
+  each-term : (ts : Terms) → Passes (replicate (lengthTerms ts) sort.term) (flatTerms ts) (λ p. deepTerms p ts) true
   each-term Terms.noTerms = none
   each-term (Terms.consTerm t ts) = passes-term t then each-term ts
 
-pub passes-fields : (fs : NamedArgs) → Passes (20 ∷ []) (entry 41 (lengthFields fs) ∷ flatFields fs) (λ p. deepFields p fs) true
+pub passes-fields : (fs : NamedArgs) → Passes (sort.fields ∷ []) (entry 41 (lengthFields fs) ∷ flatFields fs) (λ p. deepFields p fs) true
 passes-fields fs = list-fields fs (each-field fs)
 
 -- ------------------------------------------------------------------ definitions
 
-each-param : (ps : List MacroParam) → Shallow (replicate (length ps) 17) (flatParams ps)
+each-param : (ps : List MacroParam) → Shallow (replicate (length ps) sort.parameter) (flatParams ps)
 unfolding decides flatParams
 each-param [] = none
-each-param (p ∷ ps) = plain 17 (entry 42 (p .span)) refl refl refl refl (passes-text (p .name)) before each-param ps
+each-param (p ∷ ps) = plain sort.parameter (entry 42 (p .span)) refl refl refl refl (passes-text (p .name)) before each-param ps
 
 -- no more than 16
-passes-params : (ps : List MacroParam) → Passes (23 ∷ []) (entry 41 (length ps) ∷ flatParams ps) (λ p. 0) (leb (length ps) 16)
+passes-params : (ps : List MacroParam) → Passes (sort.parameters ∷ []) (entry 41 (length ps) ∷ flatParams ps) (λ p. 0) (leb (length ps) 16)
 unfolding decides
 passes-params ps =
-    subst (Passes (23 ∷ []) (entry 41 (length ps) ∷ flatParams ps) (λ p. 0))
+    subst (Passes (sort.parameters ∷ []) (entry 41 (length ps) ∷ flatParams ps) (λ p. 0))
     (and-true (not (ltb 16 (length ps))) ∙ not-ltb 16 (length ps))
-    (plain 23 (entry 41 (length ps)) refl refl refl refl (each-param ps))
+    (plain sort.parameters (entry 41 (length ps)) refl refl refl refl (each-param ps))
 
-pub passes-body : (b : MacroBody) → Passes (15 ∷ []) (flatBody b) (λ p. deepBody p b) true
+pub passes-body : (b : MacroBody) → Passes (sort.body ∷ []) (flatBody b) (λ p. deepBody p b) true
 unfolding decides flatBody deepBody
-passes-body MacroBody.Cedar = plain 15 (entry 61 0) refl refl refl refl none
-passes-body (MacroBody.TemporalCondition c) = plain 15 (entry 62 0) refl refl refl refl (passes-condition c)
-passes-body (MacroBody.TemporalValue t) = plain 15 (entry 63 0) refl refl refl refl (passes-term t)
+passes-body MacroBody.Cedar = plain sort.body (entry 61 0) refl refl refl refl none
+passes-body (MacroBody.TemporalCondition c) = plain sort.body (entry 62 0) refl refl refl refl (passes-condition c)
+passes-body (MacroBody.TemporalValue t) = plain sort.body (entry 63 0) refl refl refl refl (passes-term t)
 
-pub passes-definition : (d : MacroDef) → Passes (14 ∷ []) (flatDef d) (λ p. deepBody p (d .body)) (leb (length (d .params)) 16)
+pub passes-definition : (d : MacroDef) → Passes (sort.definition ∷ []) (flatDef d) (λ p. deepBody p (d .body)) (leb (length (d .params)) 16)
 unfolding decides flatDef
 passes-definition d =
-    subst (Passes (14 ∷ []) (flatDef d) (λ p. deepBody p (d .body))) (and-true (leb (length (d .params)) 16))
-    (plain 14 (entry 60 (d .span)) refl refl refl refl
+    subst (Passes (sort.definition ∷ []) (flatDef d) (λ p. deepBody p (d .body))) (and-true (leb (length (d .params)) 16))
+    (plain sort.definition (entry 60 (d .span)) refl refl refl refl
     (passes-text (d .name) before passes-params (d .params) before passes-body (d .body)))
 
 -- ------------------------------------------------------------------ registries
@@ -263,11 +265,11 @@ unfoldable pub fewParams : List MacroDef → Bool
 fewParams [] = true
 fewParams (d ∷ ds) = leb (length (d .params)) 16 && fewParams ds
 
-each-definition : (ds : List MacroDef) → Passes (replicate (length ds) 14) (flatDefs ds) (λ p. deepBodies p ds) (fewParams ds)
+each-definition : (ds : List MacroDef) → Passes (replicate (length ds) sort.definition) (flatDefs ds) (λ p. deepBodies p ds) (fewParams ds)
 unfolding flatDefs deepBodies fewParams
 each-definition [] = none
 each-definition (d ∷ ds) = passes-definition d then each-definition ds
 
-pub passes-registry : (ds : List MacroDef) → Passes (24 ∷ []) (flatRegistry ds) (λ p. deepBodies p ds) (fewParams ds)
+pub passes-registry : (ds : List MacroDef) → Passes (sort.definitions ∷ []) (flatRegistry ds) (λ p. deepBodies p ds) (fewParams ds)
 unfolding decides flatRegistry
-passes-registry ds = plain 24 (entry 41 (length ds)) refl refl refl refl (each-definition ds)
+passes-registry ds = plain sort.definitions (entry 41 (length ds)) refl refl refl refl (each-definition ds)

@@ -1,99 +1,82 @@
 -- One turn of a scan over a slice: what the stack in memory and the next entry say of the scan of what is left.
 -- Assumes nothing.
-use Prim.Native.Nat.{ℕ, zero, suc, _+_, _-_, _%_, _≤_, _<_}
+use Prim.Native.Nat.{ℕ, zero, suc, _+_, _-_, _/_, _%_, _≤_, _<_}
 use mathlib.Core.Path.{_≡_, refl, ap, _∙_}
-use mathlib.Core.Bool.{Bool, true, false, _&&_, _||_}
+use mathlib.Core.Bool.{Bool, true, false, _||_}
 use mathlib.Core.List.{List, [], _∷_, _++_}
 use native.Mathlib.Omega.{arith}
 use lib.ListN.{length, getD, drop, drop-of-length-le}
 use lib.Dec.{leb, leb→le}
 use Rattle.format.specs.Entry.{Entry}
-use Rattle.grammar.specs.Grammar.{Follows, inSort, sortsOf, rowAt}
-use Rattle.tape.specs.Layouts.{headAt, entriesAt, widthAt}
+use Rattle.grammar.specs.Words.{inSort, valuesOf, followsOf}
+use Rattle.tape.specs.Layouts.{headAt, entriesAt, widthBy}
 use Rattle.tape.specs.Pick.{pick}
-use Rattle.grammar.specs.Waits.{wait, waits, valued, counted, fits, deeper, enclosed, exceeds}
+use Rattle.grammar.specs.Waits.{wait, valued, counted, accepts, below, exceeds}
 use Rattle.tape.specs.Scan.{scanOf}
-use Rattle.grammar.specs.Stack.{followsOf, IsRow, cellOf, waitsOf, stackOf}
-use Rattle.grammar.specs.declared.codes.Row.{Row as RowWord}
+use Rattle.grammar.specs.Stack.{cellOf, waitOf, waitsOf, stackOf}
 use Rattle.tape.specs.declared.layout.Layout.{Layout}
 use Rattle.grammar.specs.declared.entry.Head.{Head}
 use Rattle.tape.specs.declared.scan.Scanned.{Scanned}
 use Rattle.tape.specs.declared.scan.Scanned.the-variants.{Ends, Malformed}
-use Rattle.grammar.specs.declared.stack.Cell.{Cell}
 use Rattle.grammar.proofs.Cells.{top-cell, first-wait}
 use Rattle.format.proofs.Tests.{and-left, and-right, from-true}
 
-pub length-entries : (s : List ℕ) (l : Layout) (at txt n : ℕ) → length (entriesAt s l at txt n) ≡ n
-length-entries s l at txt zero = refl
-length-entries s l at txt (suc n) = ap suc (length-entries s l (at + 1) (txt + widthAt s l at) n)
+pub length-entries : (g s : List ℕ) (l : Layout) (at txt n : ℕ) → length (entriesAt g s l at txt n) ≡ n
+length-entries g s l at txt zero = refl
+length-entries g s l at txt (suc n) = ap suc (length-entries g s l (at + 1) (txt + widthBy g s l at) n)
 
 -- an entry that was let in has its count's entries behind it, and its text is there
-pub let-in : (sort left room values : ℕ) (follows : Follows) (e : Head)
-    → (inSort sort (e .code) && fits left room values follows e) ≡ true
-    → (counted follows (e .value) ≤ left) × (e .text ≤ room)
-let-in sort left room values follows e h =
-    let t = and-right (valued values (e .value)) _ (and-right (inSort sort (e .code)) _ (from-true h)) in (
-      leb→le _ _ (and-left (leb (counted follows (e .value)) left) _ t),
-      leb→le _ _
-          (and-right (leb (counted follows (e .value)) left) _ t),
-    )
+pub let-in : (left room : ℕ) (e : Head) → accepts left room e ≡ true
+    → (counted (followsOf (e .follows)) (e .value) ≤ left) × (e .text ≤ room)
+let-in left room e h =
+    let t = and-right (valued (valuesOf (e .row)) (e .value)) _ (and-right (inSort (e .sort) (e .code)) _ (from-true h)) in
+    let few = leb (counted (followsOf (e .follows)) (e .value)) left in
+    (leb→le _ _ (and-left few _ t), leb→le _ _ (and-right few _ t))
 
-module _ (limited : Bool) (s : List ℕ) (l : Layout) (stack : List ℕ) (top at text : ℕ) (over : Bool) where
+first-is : (w : ℕ) → waitsOf (cellOf w) ≡ waitOf w ∷ drop 1 (waitsOf (cellOf w))
+first-is w =
+    let e : w % 0x40000000 % 64 ≡ w % 64 = omega arith in
+    first-wait (w % 0x40000000) (w / 0x40000000 % 2048) (w / 0x20000000000 % 128) (w / 0x1000000000000 % 8)
+    ∙ ap (λ (s : ℕ). wait s (w / 0x20000000000 % 128) (w / 0x1000000000000 % 8) ∷ drop 1 (waitsOf (cellOf w))) e
+
+module _ (g : List ℕ) (longest : ℕ) (s : List ℕ) (l : Layout) (stack : List ℕ) (top at text : ℕ) (over : Bool) where
+  abbrev scanned : Scanned
+  scanned = scanOf g longest (l .size) (entriesAt g s l at text (l .entries - at)) (stackOf stack top) at text over
+
   -- an empty stack ends the scan
-  pub ended : length stack ≤ top
-      → scanOf limited (l .size) (entriesAt s l at text (l .entries - at)) (stackOf stack top) at text over
-      ≡ Ends (record { at = at; text = text }) over
-  ended h = rw (drop-of-length-le stack {i = top} h) (go (entriesAt s l at text (l .entries - at)))
+  pub ended : length stack ≤ top → scanned ≡ Ends (record { at = at; text = text }) over
+  ended h = rw (drop-of-length-le stack {i = top} h) (go (entriesAt g s l at text (l .entries - at)))
     where
-      go : (es : List Entry) → scanOf limited (l .size) es [] at text over ≡ Ends (record { at = at; text = text }) over
+      go : (es : List Entry) → scanOf g longest (l .size) es [] at text over ≡ Ends (record { at = at; text = text }) over
       go [] = refl
       go (e ∷ es) = refl
 
   module _ (in-stack : top < length stack) where
     -- something is waited for, and the entries are used up
-    pub used-up : at ≡ l .entries
-        → scanOf limited (l .size) (entriesAt s l at text (l .entries - at)) (stackOf stack top) at text over ≡ Malformed
+    pub used-up : at ≡ l .entries → scanned ≡ Malformed
     used-up h =
         let z : l .entries - at ≡ 0 = omega arith in
-        let c = cellOf (getD stack top 0) in
-        rw (z, top-cell stack top in-stack, first-wait (c .word) (c .more) (c .nesting) (c .calls))
+        rw (z, top-cell stack top in-stack, first-is (getD stack top 0))
 
-    module _ (in-entries : at < l .entries) (c : Cell) (e : Head) (row : RowWord) (c-is : c ≡ cellOf (getD stack top 0))
-        (e-is : e ≡ headAt s l at) (row-is : IsRow row (rowAt (c .word % 64) (e .code))) where
+    module _ (in-entries : at < l .entries) (w : ℕ) (e : Head) (w-is : w ≡ getD stack top 0) (e-is : e ≡ headAt g s l (w % 64) at) where
       abbrev lets-in : Bool
-      lets-in =
-          inSort (c .word % 64) (e .code)
-          && fits (l .entries - at - 1) (l .size - text) (row .values) (followsOf (row .follows)) e
+      lets-in = accepts (l .entries - at - 1) (l .size - text) e
 
       abbrev onward : Scanned
       onward =
-          scanOf limited (l .size) (entriesAt s l (at + 1) (text + e .text) (l .entries - (at + 1)))
-          (waits (deeper (c .nesting) (e .code)) (enclosed (c .calls) (e .code)) (sortsOf (followsOf (row .follows)) (e .value))
-          ++ (drop 1 (waitsOf c) ++ stackOf stack (top + 1)))
-          (at + 1) (text + e .text) (over || exceeds limited (wait (c .word % 64) (c .nesting) (c .calls)) e)
+          scanOf g longest (l .size) (entriesAt g s l (at + 1) (text + e .text) (l .entries - (at + 1)))
+          (below (waitOf w) e ++ (drop 1 (waitsOf (cellOf w)) ++ stackOf stack (top + 1)))
+          (at + 1) (text + e .text) (over || exceeds longest (waitOf w) e)
 
-      turn : scanOf limited (l .size) (entriesAt s l at text (l .entries - at)) (stackOf stack top) at text over
-          ≡ pick lets-in onward Malformed
+      turn : scanned ≡ pick lets-in onward Malformed
       turn =
           let n : l .entries - at ≡ suc (l .entries - (at + 1)) = omega arith in
-          let left : l .entries - at - 1 ≡ length (entriesAt s l (at + 1) (text + e .text) (l .entries - (at + 1))) =
-          omega (arith, length-entries s l (at + 1) (text + e .text) (l .entries - (at + 1))) in
-          rw (
-            left,
-            row-is .values-are,
-            row-is .follows-are,
-            n,
-            top-cell stack top in-stack,
-            ← c-is,
-            first-wait (c .word)
-                (c .more) (c .nesting) (c .calls),
-            e-is,
-          )
+          let left : l .entries - at - 1 ≡ length (entriesAt g s l (at + 1) (text + e .text) (l .entries - (at + 1))) =
+          omega (arith, length-entries g s l (at + 1) (text + e .text) (l .entries - (at + 1))) in
+          rw (left, n, top-cell stack top in-stack, ← w-is, first-is w, e-is)
 
-      pub refused : lets-in ≡ false
-          → scanOf limited (l .size) (entriesAt s l at text (l .entries - at)) (stackOf stack top) at text over ≡ Malformed
+      pub refused : lets-in ≡ false → scanned ≡ Malformed
       refused h = turn ∙ ap (λ (b : Bool). pick b onward Malformed) h
 
-      pub goes-on : lets-in ≡ true
-          → scanOf limited (l .size) (entriesAt s l at text (l .entries - at)) (stackOf stack top) at text over ≡ onward
+      pub goes-on : lets-in ≡ true → scanned ≡ onward
       goes-on h = turn ∙ ap (λ (b : Bool). pick b onward Malformed) h

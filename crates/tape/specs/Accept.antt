@@ -2,10 +2,10 @@
 -- Assumes nothing.
 use Prim.Native.Nat.{ℕ}
 use mathlib.Core.List.{List}
-use mathlib.Core.Bool.{true}
 use lib.ListN.{drop}
 use lib.Dec.{eqb}
 use Rattle.format.specs.Tape.{printable}
+use Rattle.grammar.specs.Words.{temporalWords}
 use Rattle.tape.specs.Header.{openOf}
 use Rattle.tape.specs.Pick.{pick}
 use Rattle.tape.specs.Scan.{scanAt}
@@ -21,13 +21,18 @@ judged l Malformed = Refused 2
 judged l (Ends p over) =
     pick (eqb (p .at) (l .entries)) (pick (eqb (p .text) (l .size)) (pick over (Refused 3) (Tape l)) (Refused 2)) (Refused 2)
 
-abbrev pub acceptIn : List ℕ → ℕ → Layout → Opened
-acceptIn s sort l =
-    pick (printable (drop (l .text) s)) (judged l (scanAt s l (record { at = 0; text = 0 }) sort true)) (Refused 2)
+abbrev pub acceptIn : List ℕ → ℕ → List ℕ → ℕ → Layout → Opened
+acceptIn g longest s sort l =
+    pick (printable (drop (l .text) s)) (judged l (scanAt g s l (record { at = 0; text = 0 }) sort longest)) (Refused 2)
 
-abbrev pub afterOpen : List ℕ → ℕ → Opened → Opened
-afterOpen s sort (Tape l) = acceptIn s sort l
-afterOpen s sort (Refused n) = Refused n
+abbrev pub afterOpen : List ℕ → ℕ → List ℕ → ℕ → Opened → Opened
+afterOpen g longest s sort (Tape l) = acceptIn g longest s sort l
+afterOpen g longest s sort (Refused n) = Refused n
 
+-- by a table, with the longest text of a name
+abbrev pub acceptBy : List ℕ → ℕ → List ℕ → ℕ → Opened
+acceptBy g longest s sort = afterOpen g longest s sort (openOf s)
+
+-- by the table of document 01, where 64 bytes are the most
 abbrev pub acceptOf : List ℕ → ℕ → Opened
-acceptOf s sort = afterOpen s sort (openOf s)
+acceptOf s sort = acceptBy temporalWords 64 s sort

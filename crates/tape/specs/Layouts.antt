@@ -9,6 +9,8 @@ use Rattle.definition.specs.Size.{size}
 use Rattle.format.specs.Entry.{Entry, entry}
 use Rattle.format.specs.Stands.{part}
 use Rattle.format.specs.Tape.{fromLe, isText, textWidth}
+use Rattle.grammar.specs.Waits.{headOf}
+use Rattle.grammar.specs.Words.{rowAt, widthOf}
 use Rattle.tape.specs.Pick.{pick}
 use Rattle.tape.specs.declared.layout.Layout.{Layout}
 use Rattle.tape.specs.declared.layout.Place.{Place}
@@ -47,19 +49,20 @@ valueAt s l i = fromLe (part s (l .values + 8 * i) 8)
 abbrev pub widthAt : List ℕ → Layout → ℕ → ℕ
 widthAt s l i = textWidth (isText (codeAt s l i)) (valueAt s l i)
 
--- an entry's code and value, with the length of its text
-abbrev pub headOf : Entry → Head
-headOf e = record { code = e .code; value = e .value; text = textWidth (isText (e .code)) (e .value) }
+-- the same by a table's marks
+abbrev pub widthBy : List ℕ → List ℕ → Layout → ℕ → ℕ
+widthBy g s l i = widthOf (rowAt g (codeAt s l i)) (valueAt s l i)
 
-abbrev pub headAt : List ℕ → Layout → ℕ → Head
-headAt s l i = record { code = codeAt s l i; value = valueAt s l i; text = widthAt s l i }
+-- the entry at a place of a sort
+abbrev pub headAt : List ℕ → List ℕ → Layout → ℕ → ℕ → Head
+headAt g s l sort i = headOf g sort (codeAt s l i) (valueAt s l i)
 
 -- the n entries that a slice has from entry `at` and text offset `txt` on, whatever they are
-abbrev pub entriesAt : List ℕ → Layout → ℕ → ℕ → ℕ → List Entry
-entriesAt s l at txt zero = []
-entriesAt s l at txt (suc n) =
-    record { code = codeAt s l at; value = valueAt s l at; text = part s (l .text + txt) (widthAt s l at) }
-    ∷ entriesAt s l (at + 1) (txt + widthAt s l at) n
+abbrev pub entriesAt : List ℕ → List ℕ → Layout → ℕ → ℕ → ℕ → List Entry
+entriesAt g s l at txt zero = []
+entriesAt g s l at txt (suc n) =
+    record { code = codeAt s l at; value = valueAt s l at; text = part s (l .text + txt) (widthBy g s l at) }
+    ∷ entriesAt g s l (at + 1) (txt + widthBy g s l at) n
 
 -- the place behind an entry with `size` bytes of text
 abbrev pub onward : Place → ℕ → Place

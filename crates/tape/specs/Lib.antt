@@ -3,5 +3,6 @@ pub mod Pick
 pub mod Layouts
 pub mod Header
 pub mod Scan
+pub mod Flat
 pub mod Turn
 pub mod Accept

@@ -1,5 +1,5 @@
 -- Whether the entries from a place on are of a sort, where they end, and whether they pass a largest figure: a pushdown automaton over
--- the table of `Grammar`. Its stack holds what is still to come.
+-- the words of a table. Its stack holds what is still to come.
 -- Assumes nothing.
 use Prim.Native.Nat.{ℕ, _+_, _-_}
 use mathlib.Core.List.{List, [], _∷_, _++_}
@@ -8,8 +8,9 @@ use lib.ListN.{length}
 use lib.Dec.{leb, ltb}
 use Rattle.format.specs.Entry.{Entry}
 use Rattle.grammar.specs.Pick.{pick}
-use Rattle.grammar.specs.Waits.{Wait, wait, accepts, exceeds, below}
-use Rattle.tape.specs.Layouts.{holds, headOf, entriesAt}
+use Rattle.grammar.specs.Waits.{Wait, wait, headOf, accepts, exceeds, below}
+use Rattle.grammar.specs.Words.{temporalWords}
+use Rattle.tape.specs.Layouts.{holds, entriesAt}
 use Rattle.tape.specs.declared.layout.Layout.{Layout}
 use Rattle.tape.specs.declared.layout.Place.{Place}
 use Rattle.tape.specs.declared.scan.Scanned.{Scanned}
@@ -18,41 +19,49 @@ use Rattle.tape.specs.declared.scan.Skipped.{Skipped}
 use Rattle.tape.specs.declared.scan.Skipped.the-variants.{At, Nowhere}
 
 -- the entry and the text offset where the stack is empty, and whether a largest figure was passed
-abbrev pub scanOf : Bool → ℕ → List Entry → List Wait → ℕ → ℕ → Bool → Scanned
-scanOf limited size [] [] at text over = Ends (record { at = at; text = text }) over
-scanOf limited size [] (w ∷ st) at text over = Malformed
-scanOf limited size (e ∷ es) [] at text over = Ends (record { at = at; text = text }) over
-scanOf limited size (e ∷ es) (w ∷ st) at text over =
-    pick (accepts (length es) (size - text) (w .sort) (headOf e))
-    (scanOf limited size es (below w (headOf e) ++ st) (at + 1) (text + headOf e .text) (over || exceeds limited w (headOf e)))
+abbrev pub scanOf : List ℕ → ℕ → ℕ → List Entry → List Wait → ℕ → ℕ → Bool → Scanned
+scanOf g longest size [] [] at text over = Ends (record { at = at; text = text }) over
+scanOf g longest size [] (w ∷ st) at text over = Malformed
+scanOf g longest size (e ∷ es) [] at text over = Ends (record { at = at; text = text }) over
+scanOf g longest size (e ∷ es) (w ∷ st) at text over =
+    let h = headOf g (w .sort) (e .code) (e .value) in
+    pick (accepts (length es) (size - text) h)
+    (scanOf g longest size es (below w h ++ st) (at + 1) (text + h .text) (over || exceeds longest w h))
     Malformed
 
 -- the entries of a slice from a place on
-abbrev pub scanFrom : List ℕ → Layout → Place → ℕ → Bool → Scanned
-scanFrom s l from sort limited =
-    scanOf limited (l .size) (entriesAt s l (from .at) (from .text) (l .entries - from .at)) (wait sort 0 0 ∷ []) (from .at) (from .text)
-    false
+abbrev pub scanFrom : List ℕ → List ℕ → Layout → Place → ℕ → ℕ → Scanned
+scanFrom g s l from sort longest =
+    scanOf g longest (l .size) (entriesAt g s l (from .at) (from .text) (l .entries - from .at)) (wait sort 0 0 ∷ []) (from .at)
+    (from .text) false
 
--- the slice holds the layout, the place is in it, and the sort is one
+-- the slice holds the layout, the place is in it, and a table has room for the sort
 abbrev pub starts : List ℕ → Layout → Place → ℕ → Bool
 starts s l from sort =
-    holds s l && (leb (from .at) (l .entries) && (leb (from .text) (l .size) && ltb sort 25))
+    holds s l && (leb (from .at) (l .entries) && (leb (from .text) (l .size) && ltb sort 32))
 
-abbrev pub scanAt : List ℕ → Layout → Place → ℕ → Bool → Scanned
-scanAt s l from sort limited = pick (starts s l from sort) (scanFrom s l from sort limited) Malformed
+abbrev pub scanAt : List ℕ → List ℕ → Layout → Place → ℕ → ℕ → Scanned
+scanAt g s l from sort longest = pick (starts s l from sort) (scanFrom g s l from sort longest) Malformed
 
 -- the place behind a subtree
 abbrev pub behind : Scanned → Skipped
 behind (Ends p over) = At p
 behind Malformed = Nowhere
 
-abbrev pub skipAt : List ℕ → Layout → Place → ℕ → Skipped
-skipAt s l from sort = behind (scanAt s l from sort false)
+abbrev pub skipIn : List ℕ → List ℕ → Layout → Place → ℕ → Skipped
+skipIn g s l from sort = behind (scanAt g s l from sort 0)
 
--- the tree at the start of a layout passes a largest figure
+-- the tree at the start of a layout passes a largest figure of a result
 abbrev pub overOf : Scanned → Bool
 overOf (Ends p over) = over
 overOf Malformed = false
 
+abbrev pub tooDeepIn : List ℕ → List ℕ → Layout → ℕ → Bool
+tooDeepIn g s l sort = overOf (scanAt g s l (record { at = 0; text = 0 }) sort 0)
+
+-- the same with the table of document 01
+abbrev pub skipAt : List ℕ → Layout → Place → ℕ → Skipped
+skipAt s l from sort = skipIn temporalWords s l from sort
+
 abbrev pub tooDeep : List ℕ → Layout → ℕ → Bool
-tooDeep s l sort = overOf (scanAt s l (record { at = 0; text = 0 }) sort false)
+tooDeep s l sort = tooDeepIn temporalWords s l sort

@@ -6,24 +6,37 @@ use crate::layout::Place;
 use crate::scan::Scanned;
 use crate::scan::scan;
 use crate::text::is_printable;
+use grammar::codes::table;
 ghost use mathlib.Core.Path.{_≡_};
-ghost use Rattle.tape.specs.Accept.{acceptOf, acceptIn, judged};
+ghost use Rattle.tape.specs.Accept.{acceptBy, acceptIn, acceptOf, judged};
 
-// The layout of a tape whose root is of a sort and which passes no largest figure of an input, or the refusal's number.
+// The layout of a tape whose root is of a sort and which passes no largest figure of an input, or the refusal's number. The longest text
+// has 64 bytes, names too.
 pub fn accept(s: &[u8], sort: u64) -> Opened
     ensures { λ r. ⌜ r ≡ acceptOf (now (s .entry)) sort ⌝ }
 {
+    let grammar = table();
+    accept_by(&grammar, 64, s, sort)
+}
+
+// The same by any table, with the longest text of a name.
+pub fn accept_by(grammar: &[u64], longest: u64, s: &[u8], sort: u64) -> Opened
+    ensures { λ r. ⌜ r ≡ acceptBy (now (grammar .entry)) longest (now (s .entry)) sort ⌝ }
+{
     match open(s) {
-        Opened::Tape(l) => accept_in(s, l, sort),
+        Opened::Tape(l) => accept_in(grammar, longest, s, l, sort),
         Opened::Refused(n) => Opened::Refused(n),
     }
 }
 
-fn accept_in(s: &[u8], l: Layout, sort: u64) -> Opened
-    ensures { λ r. ⌜ r ≡ acceptIn (now (s .entry)) sort l ⌝ }
+fn accept_in(grammar: &[u64], longest: u64, s: &[u8], l: Layout, sort: u64) -> Opened
+    ensures { λ r. ⌜ r ≡ acceptIn (now (grammar .entry)) longest (now (s .entry)) sort l ⌝ }
 {
     if is_printable(s, l.text) {
-        judge(l, scan(s, l, Place { at: 0, text: 0 }, sort, true))
+        judge(
+            l,
+            scan(grammar, s, l, Place { at: 0, text: 0 }, sort, longest),
+        )
     } else {
         Opened::Refused(2)
     }

@@ -1,5 +1,5 @@
 // Where the three sections of a tape or of a work area start, and the readers over them.
-use buffer::read_value;
+use buffer::held_value;
 ghost use mathlib.Core.Path.{_≡_};
 ghost use Prim.Native.Nat.{_+_, _*_, _≤_, _<_};
 ghost use lib.ListN.{length};
@@ -92,5 +92,5 @@ pub fn value_at(s: &[u8], l: Layout, at: usize) -> u64
     ensures { λ r. ⌜ r ≡ valueAt (now (s .entry)) l at ⌝ }
 {
     let start = l.values;
-    read_value(s, start + 8 * at)
+    held_value(s, start + 8 * at)
 }

@@ -1,4 +1,5 @@
 // A scan over the entries of a sort: whether they are such entries, where they end, and whether they pass a largest figure.
+use crate::flat::is_flat;
 use crate::layout::Layout;
 use crate::layout::Place;
 use crate::layout::code_at;
@@ -6,22 +7,22 @@ use crate::layout::holds;
 use crate::layout::value_at;
 use grammar::codes::both;
 use grammar::codes::either;
-use grammar::codes::row_of;
+use grammar::codes::follows_in;
 use grammar::codes::table;
+use grammar::codes::word_at;
 use grammar::entry::Head;
 use grammar::entry::accepts;
 use grammar::entry::advance;
 use grammar::entry::exceeds;
-use grammar::kind::text_width;
+use grammar::entry::width_of;
 use grammar::stack::Cell;
 use grammar::stack::put;
-use grammar::stack::unpack;
 ghost use mathlib.Core.Path.{_≡_};
 ghost use Prim.Native.Nat.{_+_, _*_, _≤_, _<_};
 ghost use lib.ListN.{length};
-ghost use Rattle.grammar.specs.Stack.{cell, grammarWords};
+ghost use Rattle.grammar.specs.Stack.{cell};
 ghost use Rattle.tape.specs.Layouts.{headAt};
-ghost use Rattle.tape.specs.Scan.{scanAt, scanFrom, skipAt, starts, tooDeep};
+ghost use Rattle.tape.specs.Scan.{scanAt, scanFrom, skipAt, skipIn, starts, tooDeep, tooDeepIn};
 ghost use Rattle.tape.specs.Turn.{CanTurn, Starts, Turned};
 
 // Where the entries of a sort end, and whether they pass a largest figure; or they are none.
@@ -36,14 +37,24 @@ pub enum Skipped {
     Nowhere,
 }
 
-fn head_at(s: &[u8], l: Layout, at: usize) -> Head
+// The entry at a place, where one of the sort `wanted` is due.
+fn head_at(grammar: &[u64], s: &[u8], l: Layout, wanted: u64, at: usize) -> Head
     requires { ⌜ (l .codes + at < length (now s)) × (l .values + 8 * at + 8 ≤ length (now s)) ⌝ }
-    ensures { λ r. ⌜ r ≡ headAt (now (s .entry)) l at ⌝ }
+    ensures { λ r. ⌜ (r ≡ headAt (now (grammar .entry)) (now (s .entry)) l wanted at) × (r .follows < 0x40000000) ⌝ }
 {
     let code = code_at(s, l, at);
     let value = value_at(s, l, at);
-    let text = text_width(code, value);
-    Head { code, value, text }
+    let sort = word_at(grammar, (wanted % 32) as usize);
+    let row = word_at(grammar, 32 + code as usize);
+    let follows = follows_in(sort, row);
+    Head {
+        code,
+        value,
+        text: width_of(row, value),
+        sort,
+        row,
+        follows,
+    }
 }
 
 // What the entry at a place does to a scan: it may not stand there, or the stack has a new top, the text goes on behind the entry's own,
@@ -62,22 +73,20 @@ fn take_entry(
     top: usize,
     at: usize,
     text: usize,
-    limited: bool,
+    longest: u64,
 ) -> Turn
-    requires { ⌜ CanTurn (now stack) (now grammar) (now s) l top at text ⌝ }
-    ensures { λ r. ⌜ Turned limited (now (s .entry)) l (now (stack .entry)) top at text r (now (stack .exit)) ⌝ }
+    requires { ⌜ CanTurn (now stack) (now s) l top at text ⌝ }
+    ensures { λ r. ⌜ Turned (now (grammar .entry)) longest (now (s .entry)) l (now (stack .entry)) top at text r (now (stack .exit)) ⌝ }
 {
     let entries = l.entries;
     let size = l.size;
-    let c = unpack(stack[top]);
-    let wanted = c.word % 64;
-    let e = head_at(s, l, at);
-    let row = row_of(grammar, wanted, e.code);
-    if !accepts(grammar, entries - at - 1, size - text, wanted, row, e) {
+    let w = stack[top];
+    let e = head_at(grammar, s, l, w % 64, at);
+    if !accepts(entries - at - 1, size - text, e) {
         return Turn::Refused;
     }
-    let over = exceeds(limited, wanted, c, e);
-    let next = advance(stack, top, c, e, row.follows);
+    let over = exceeds(longest, w, e);
+    let next = advance(stack, top, w, e);
     Turn::Passed(next, text + e.text as usize, over)
 }
 
@@ -101,10 +110,10 @@ fn run(
     l: Layout,
     from: Place,
     sort: u64,
-    limited: bool,
+    longest: u64,
 ) -> Scanned
-    requires { ⌜ (l .entries < length (now stack)) × Starts (now s) l from sort × (now grammar ≡ grammarWords) ⌝ }
-    ensures { λ r. ⌜ r ≡ scanFrom (now (s .entry)) l from sort limited ⌝ }
+    requires { ⌜ (l .entries < length (now stack)) × Starts (now s) l from sort ⌝ }
+    ensures { λ r. ⌜ r ≡ scanFrom (now (grammar .entry)) (now (s .entry)) l from sort longest ⌝ }
 {
     let entries = l.entries;
     let cells = stack.len();
@@ -124,7 +133,7 @@ fn run(
             top,
             at,
             text,
-            limited,
+            longest,
         ) else {
             return Scanned::Malformed;
         };
@@ -136,48 +145,52 @@ fn run(
     Scanned::Ends(Place { at, text }, over)
 }
 
-fn scan_short(s: &[u8], l: Layout, from: Place, sort: u64, limited: bool) -> Scanned
+fn scan_short(grammar: &[u64], s: &[u8], l: Layout, from: Place, sort: u64, longest: u64) -> Scanned
     requires { ⌜ Starts (now s) l from sort × (l .entries < 128) ⌝ }
-    ensures { λ r. ⌜ r ≡ scanFrom (now (s .entry)) l from sort limited ⌝ }
+    ensures { λ r. ⌜ r ≡ scanFrom (now (grammar .entry)) (now (s .entry)) l from sort longest ⌝ }
 {
     let mut stack = [0u64; 128];
-    let grammar = table();
-    run(&mut stack, &grammar, s, l, from, sort, limited)
+    run(&mut stack, grammar, s, l, from, sort, longest)
 }
 
-fn scan_middle(s: &[u8], l: Layout, from: Place, sort: u64, limited: bool) -> Scanned
+fn scan_middle(
+    grammar: &[u64],
+    s: &[u8],
+    l: Layout,
+    from: Place,
+    sort: u64,
+    longest: u64,
+) -> Scanned
     requires { ⌜ Starts (now s) l from sort × (l .entries < 512) ⌝ }
-    ensures { λ r. ⌜ r ≡ scanFrom (now (s .entry)) l from sort limited ⌝ }
+    ensures { λ r. ⌜ r ≡ scanFrom (now (grammar .entry)) (now (s .entry)) l from sort longest ⌝ }
 {
     let mut stack = [0u64; 512];
-    let grammar = table();
-    run(&mut stack, &grammar, s, l, from, sort, limited)
+    run(&mut stack, grammar, s, l, from, sort, longest)
 }
 
-fn scan_long(s: &[u8], l: Layout, from: Place, sort: u64, limited: bool) -> Scanned
+fn scan_long(grammar: &[u64], s: &[u8], l: Layout, from: Place, sort: u64, longest: u64) -> Scanned
     requires { ⌜ Starts (now s) l from sort ⌝ }
-    ensures { λ r. ⌜ r ≡ scanFrom (now (s .entry)) l from sort limited ⌝ }
+    ensures { λ r. ⌜ r ≡ scanFrom (now (grammar .entry)) (now (s .entry)) l from sort longest ⌝ }
 {
     let mut stack = [0u64; 1025];
-    let grammar = table();
-    run(&mut stack, &grammar, s, l, from, sort, limited)
+    run(&mut stack, grammar, s, l, from, sort, longest)
 }
 
 // The stack is cleared before each scan, so it is a short one where that is enough.
-fn scan_held(s: &[u8], l: Layout, from: Place, sort: u64, limited: bool) -> Scanned
+fn scan_held(grammar: &[u64], s: &[u8], l: Layout, from: Place, sort: u64, longest: u64) -> Scanned
     requires { ⌜ Starts (now s) l from sort ⌝ }
-    ensures { λ r. ⌜ r ≡ scanFrom (now (s .entry)) l from sort limited ⌝ }
+    ensures { λ r. ⌜ r ≡ scanFrom (now (grammar .entry)) (now (s .entry)) l from sort longest ⌝ }
 {
     if l.entries < 128 {
-        return scan_short(s, l, from, sort, limited);
+        return scan_short(grammar, s, l, from, sort, longest);
     }
     if l.entries < 512 {
-        return scan_middle(s, l, from, sort, limited);
+        return scan_middle(grammar, s, l, from, sort, longest);
     }
-    scan_long(s, l, from, sort, limited)
+    scan_long(grammar, s, l, from, sort, longest)
 }
 
-// Whether the slice holds the layout, the place is in it, and the sort is one.
+// Whether the slice holds the layout, the place is in it, and a table has room for the sort.
 fn starts(s: &[u8], l: Layout, from: Place, sort: u64) -> bool
     ensures { λ r. ⌜ r ≡ starts (now (s .entry)) l from sort ⌝ }
 {
@@ -185,37 +198,58 @@ fn starts(s: &[u8], l: Layout, from: Place, sort: u64) -> bool
     let text = from.text;
     let entries = l.entries;
     let size = l.size;
-    let placed = both(at <= entries, both(text <= size, sort < 25));
+    let placed = both(at <= entries, both(text <= size, sort < 32));
     both(holds(s, l), placed)
 }
 
-// The entries of a sort from a place on. `limited` asks for the longest text of an input too.
-pub fn scan(s: &[u8], l: Layout, from: Place, sort: u64, limited: bool) -> Scanned
-    ensures { λ r. ⌜ r ≡ scanAt (now (s .entry)) l from sort limited ⌝ }
+// The entries of a sort from a place on, by any table. `longest` is the longest text of a name, or 0 where the figures of an
+// input are not asked for.
+pub fn scan(grammar: &[u64], s: &[u8], l: Layout, from: Place, sort: u64, longest: u64) -> Scanned
+    ensures { λ r. ⌜ r ≡ scanAt (now (grammar .entry)) (now (s .entry)) l from sort longest ⌝ }
 {
     if starts(s, l, from, sort) {
-        scan_held(s, l, from, sort, limited)
+        scan_held(grammar, s, l, from, sort, longest)
     } else {
         Scanned::Malformed
     }
 }
 
-// The place behind the subtree of a sort that stands at a place.
-pub fn skip(s: &[u8], l: Layout, from: Place, sort: u64) -> Skipped
-    ensures { λ r. ⌜ r ≡ skipAt (now (s .entry)) l from sort ⌝ }
+// The place behind the subtree of a sort that stands at a place, by any table.
+pub fn skip_in(grammar: &[u64], s: &[u8], l: Layout, from: Place, sort: u64) -> Skipped
+    ensures { λ r. ⌜ r ≡ skipIn (now (grammar .entry)) (now (s .entry)) l from sort ⌝ }
 {
-    let Scanned::Ends(p, _) = scan(s, l, from, sort, false) else {
+    let Scanned::Ends(p, _) = scan(grammar, s, l, from, sort, 0) else {
         return Skipped::Nowhere;
     };
     Skipped::At(p)
 }
 
-// Whether the tree of a sort at the start of a layout passes a largest figure: nesting, or calls inside the arguments of others.
-pub fn too_deep(s: &[u8], l: Layout, sort: u64) -> bool
-    ensures { λ r. ⌜ r ≡ tooDeep (now (s .entry)) l sort ⌝ }
+// Whether the tree of a sort at the start of a layout passes a largest figure of a result, by any table: nesting, or calls inside the
+// arguments of others.
+pub fn too_deep_in(grammar: &[u64], s: &[u8], l: Layout, sort: u64) -> bool
+    ensures { λ r. ⌜ r ≡ tooDeepIn (now (grammar .entry)) (now (s .entry)) l sort ⌝ }
 {
-    let Scanned::Ends(_, over) = scan(s, l, Place { at: 0, text: 0 }, sort, false) else {
+    let Scanned::Ends(_, over) = scan(grammar, s, l, Place { at: 0, text: 0 }, sort, 0) else {
         return false;
     };
     over
+}
+
+// The same by the table of document 01.
+pub fn skip(s: &[u8], l: Layout, from: Place, sort: u64) -> Skipped
+    ensures { λ r. ⌜ r ≡ skipAt (now (s .entry)) l from sort ⌝ }
+{
+    let grammar = table();
+    skip_in(&grammar, s, l, from, sort)
+}
+
+// A small tree is not measured.
+pub fn too_deep(s: &[u8], l: Layout, sort: u64) -> bool
+    ensures { λ r. ⌜ r ≡ tooDeep (now (s .entry)) l sort ⌝ }
+{
+    let grammar = table();
+    if is_flat(&grammar, s, l) {
+        return false;
+    }
+    too_deep_in(&grammar, s, l, sort)
 }

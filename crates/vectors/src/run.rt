@@ -58,7 +58,7 @@ fn run(s: &[u8], v: Vector, result: &mut [u8], work: &mut [u8], message: &mut [u
     let first = bytes(s, v.first);
     let second = bytes(s, v.second);
     match v.kind / 64 {
-        1 => body_check::check(first, message),
+        1 => check_body::check(first, message),
         2 => registry::build(first, message),
         3 => substitution::substitute(first, second, v.limit, result, work, message),
         _ => expansion::expand(first, second, v.limit, result, work, message),

@@ -2,7 +2,7 @@
 -- Assumes nothing.
 use denote.Ref.{now}
 use borrow.Author.Needs.{needs}
-use Rattle.area.specs.Area.{areaIn, loseIn}
+use Rattle.area.specs.Area.{areaIn, overflowIn}
 use Rattle.area.proofs.Room.{append-out-none}
 use Rattle.area.proofs.append_out.Statement.{statement}
 use Rattle.area.proofs.append_out.Tie as tie
@@ -11,10 +11,10 @@ append-whole-requires : tie.Need-append-whole-requires
 append-whole-requires c κs = c .before .before .has-room .ensures .holds (c .before .if1 .taken)
 
 returns-2 : tie.Need-returns-2
-unfolding loseIn
+unfolding overflowIn
 returns-2 c =
     let p = c .before .before .before .before .before .args in
-    rw (c .lose .ensures)
+    rw (c .overflow .ensures)
     (append-out-none (areaIn (p .other) (now (p .from))) (areaIn (p .out) (now (p .s))) (c .before .before .has-room .ensures .fails (c .before .if1 .left)))
 
 pub append-out-spec : {M : Type 1} → statement M

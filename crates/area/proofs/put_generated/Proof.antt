@@ -4,7 +4,7 @@ use native.Mathlib.Omega.{arith}
 use denote.Ref.{now}
 use borrow.Author.Needs.{needs}
 use Rattle.definition.proofs.Decimal.{decimal-length}
-use Rattle.area.specs.Area.{areaIn, loseIn, generated}
+use Rattle.area.specs.Area.{areaIn, overflowIn, generated}
 use Rattle.area.proofs.Generated.{length-generated, put-text-full}
 use Rattle.area.proofs.put_generated.Statement.{statement}
 use Rattle.area.proofs.put_generated.Tie as tie
@@ -19,11 +19,11 @@ generate-requires c κs =
     (c .before .before .has-room .ensures .holds (c .before .if1 .taken), omega (arith, c .before .before .before .digit-count .ensures))
 
 returns-2 : tie.Need-returns-2
-unfolding loseIn
+unfolding overflowIn
 returns-2 c =
     let p = c .before .before .before .before .before .before .args in
     let l = length-generated (now (p .name)) (p .start) in
-    rw (c .lose .ensures)
+    rw (c .overflow .ensures)
     (put-text-full (p .code) (generated (now (p .name)) (p .start)) (areaIn (p .out) (now (p .s)))
     (λ room. c .before .before .has-room .ensures .fails (c .before .if1 .left) (rw (l, ← (c .before .before .before .digit-count .ensures)) at room)))
 

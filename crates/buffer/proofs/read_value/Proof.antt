@@ -13,14 +13,14 @@ returns c =
     let p = c .before .before .args in
     sym (fromLe-past (now (p .s)) (p .at) 8 (omega arith))
 
-returns-2 : tie.Need-returns-2
-returns-2 c =
-    let p = c .before .before .before .before .args in
+returns-3 : tie.Need-returns-3
+returns-3 c =
+    let p = c .before .before .before .before .before .args in
     omega (arith, fromLe-value (now (p .s)) (p .at))
 
 pub read-value-spec : {M : Type 1} → statement M
 read-value-spec =
     tie.close
     (tie.spec
-    returns (λ c κs. search needs) (λ c. search needs) (λ c. search needs) (λ c κs. search needs) (λ c. search needs)
-    (λ c. search needs) (λ c. search needs) returns-2)
+    returns (λ c. search needs) (λ c κs. search needs) (λ c. search needs) (λ c κs. search needs) (λ c. search needs)
+    (λ c. search needs) (λ c κs. search needs) (λ c. search needs) (λ c. search needs) (λ c. search needs) returns-3)

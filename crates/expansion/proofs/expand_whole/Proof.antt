@@ -16,4 +16,4 @@ expand-whole-spec =
     (λ c. search needs)
     (λ c.
     whole-walked _ _ _ (c .before .before .before .before .before .before .before .before .before .empty .ensures)
-    (c .before .before .before .before .before .before .expand-condition .ensures) (c .fits2 .ensures)))
+    (c .before .before .before .before .before .before .expand-condition .ensures) (c .refuse-too-large .ensures)))

@@ -3,7 +3,7 @@
 use denote.Ref.{now}
 use borrow.Author.Needs.{needs}
 use Rattle.messages.specs.Reason.{messageOf}
-use Rattle.pieces.proofs.Writing.{write-nothing}
+use Rattle.message_parts.proofs.Writing.{write-nothing}
 use Rattle.messages.proofs.said.Statement.{statement}
 use Rattle.messages.proofs.said.Tie as tie
 

@@ -1,12 +1,12 @@
 -- `neukolja::neukolja_expand` meets its contract.
 -- Assumes nothing.
 use borrow.Author.Needs.{needs}
-use Rattle.neukolja.proofs.Handed.{hands}
+use Rattle.neukolja.proofs.WordsWith.{words-with}
 use Rattle.neukolja.proofs.neukolja_expand.Statement.{statement}
 use Rattle.neukolja.proofs.neukolja_expand.Tie as tie
 
 returns : tie.Need-returns
-returns c = hands _ _ _ _ _ (c .hand .ensures) (c .before .before .before .before .before .before .before .before .expand .ensures)
+returns c = words-with _ _ _ _ _ (c .write-words .ensures) (c .before .before .before .before .before .before .before .before .expand .ensures)
 
 pub neukolja-expand-spec : {M : Type 1} → statement M
 neukolja-expand-spec =

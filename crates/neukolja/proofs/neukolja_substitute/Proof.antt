@@ -1,12 +1,12 @@
 -- `neukolja::neukolja_substitute` meets its contract.
 -- Assumes nothing.
 use borrow.Author.Needs.{needs}
-use Rattle.neukolja.proofs.Handed.{hands}
+use Rattle.neukolja.proofs.WordsWith.{words-with}
 use Rattle.neukolja.proofs.neukolja_substitute.Statement.{statement}
 use Rattle.neukolja.proofs.neukolja_substitute.Tie as tie
 
 returns : tie.Need-returns
-returns c = hands _ _ _ _ _ (c .hand .ensures) (c .before .before .before .before .before .before .before .before .substitute .ensures)
+returns c = words-with _ _ _ _ _ (c .write-words .ensures) (c .before .before .before .before .before .before .before .before .substitute .ensures)
 
 pub neukolja-substitute-spec : {M : Type 1} → statement M
 neukolja-substitute-spec =

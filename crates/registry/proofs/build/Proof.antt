@@ -6,27 +6,27 @@ use borrow.Author.Needs.{needs}
 use Rattle.definition.specs.Registry.{build}
 use Rattle.definition.specs.Answers.{registryAnswer}
 use Rattle.tape.proofs.Roots.{registry-root, bytes-all}
-use Rattle.answer.proofs.Operations.{ends-short, ends-refused}
+use Rattle.answer.proofs.Operations.{message-short, message-refused}
 use Rattle.registry.proofs.Answers.{built}
 use Rattle.registry.proofs.build.Statement.{statement}
 use Rattle.registry.proofs.build.Tie as tie
 
 returns : tie.Need-returns
 unfolding registryAnswer
-returns c = ends-short registry-root build _ _ (omega (arith, c .before .before .before .before .if1 .taken)) (c .before .before .bare .ensures)
+returns c = message-short registry-root build _ _ (omega (arith, c .before .before .before .before .if1 .taken)) (c .before .before .refuse-number .ensures)
 
 returns-2 : tie.Need-returns-2
 unfolding registryAnswer
 returns-2 c =
-    ends-refused registry-root build _ _ (omega (arith, c .before .before .before .before .before .before .before .before .if1 .left)) (sym (c .before .before .before .before .before .before .before .accept .ensures) ∙ c .before .before .before .before .before .n .given .1)
-    (c .before .before .bare2 .ensures)
+    message-refused registry-root build _ _ (omega (arith, c .before .before .before .before .before .before .before .before .if1 .left)) (sym (c .before .before .before .before .before .before .before .accept .ensures) ∙ c .before .before .before .before .before .n .given .1)
+    (c .before .before .refuse-number2 .ensures)
 
 returns-3 : tie.Need-returns-3
 returns-3 c =
     let registry = c .before .before .before .before .before .before .before .before .before .before .before .before .args .registry .now in
     built registry (omega (arith, c .before .before .before .before .before .before .before .before .before .if1 .left)) (bytes-all registry (λ i. c .before .before .before .before .before .before .before .before .before .before .before .shared-slice-known .given i .fits))
     (sym (c .before .before .before .before .before .before .before .before .accept .ensures) ∙ c .before .before .before .before .before .before .l .given .1) (c .before .before .before .before .check-registry .ensures)
-    (c .before .before .conclude .ensures)
+    (c .before .before .answer-verdict .ensures)
 
 pub build-spec : {M : Type 1} → statement M
 build-spec =

@@ -5,9 +5,6 @@ use borrow.Author.Needs.{needs}
 use Rattle.grammar.proofs.entry.accepts.Statement.{statement}
 use Rattle.grammar.proofs.entry.accepts.Tie as tie
 
-in-sort-requires : tie.Need-in-sort-requires
-in-sort-requires c κs = c .before .before .before .before .before .pre
-
 returns : tie.Need-returns
 returns c =
     c .both3 .ensures ∙ simp (
@@ -22,5 +19,4 @@ pub accepts-spec : {M : Type 1} → statement M
 accepts-spec =
     tie.close
     (tie.spec
-    (λ c κs. search needs) (λ c κs. search needs) (λ c κs. search needs) (λ c κs. search needs) in-sort-requires
-    (λ c κs. search needs) returns)
+    (λ c κs. search needs) (λ c κs. search needs) (λ c κs. search needs) (λ c κs. search needs) (λ c κs. search needs) (λ c κs. search needs) returns)

@@ -1,31 +1,37 @@
 -- `grammar::entry::advance` meets its contract: a sort less, and what follows on top.
 -- Assumes nothing.
 use mathlib.Core.Path.{_∙_}
-use Rattle.format.specs.Limits.{isCall}
-use borrow.Author.Needs.{needs}
+use Prim.Native.Nat.{_/_, _%_}
 use native.Mathlib.Omega.{arith}
+use borrow.Author.Needs.{needs}
+use Rattle.grammar.specs.Waits.{deeper, enclosed}
+use Rattle.grammar.proofs.Cells.{follow-none}
 use Rattle.grammar.proofs.entry.advance.Statement.{statement}
 use Rattle.grammar.proofs.entry.advance.Tie as tie
 
 returns : tie.Need-returns
-unfolding isCall
 returns c =
-    let d = c .before .before .before .before .before .before .drop-first .ensures in
-    let g = c .before .before .push .ensures in
+    let a = c .before .before .before .before .before .before .before .args in
+    let d = c .before .before .before .before .drop-first .ensures in
+    record {
+      up = omega (arith, d .up);
+      most = omega (arith, d .most);
+      stack-is = d .stack-is ∙ rw (← (follow-none (a .e .follows) (a .e .value) (deeper (a .w / 0x20000000000 % 128) (a .e))
+          (enclosed (a .w / 0x1000000000000 % 8) (a .e)) (c .if1 .taken)));
+    }
+
+returns-2 : tie.Need-returns-2
+returns-2 c =
+    let d = c .before .before .before .before .before .before .before .before .drop-first .ensures in
+    let g = c .before .before .bring .ensures in
     record {
       up = omega (arith, d .up, g .up);
       most = omega (arith, d .most, g .most);
-      stack-is = g .stack-is ∙ simp (
-        d .stack-is,
-        c .before .before .before .before .before .before .before .before .before .before .raised .ensures,
-        c .before .before .before .before .before .before .before .before .before .before .before .is-node .ensures,
-        c .before .before .before .before .before .before .before .before .raised2 .ensures,
-      );
+      stack-is = g .stack-is ∙ simp (d .stack-is);
     }
 
 pub advance-spec : {M : Type 1} → statement M
 advance-spec =
     tie.close
     (tie.spec
-    (λ c κs. search needs) (λ c κs. search needs) (λ c κs. search needs) (λ c κs. search needs) (λ c κs. search needs)
-    (λ c. search needs) returns)
+    (λ c κs. search needs) (λ c. search needs) returns (λ c κs. search needs) (λ c. search needs) returns-2)

@@ -1,28 +1,25 @@
 -- `grammar::entry::exceeds` meets its contract.
 -- Assumes nothing.
 use mathlib.Core.Path.{_∙_}
-use Rattle.format.specs.Limits.{isCall}
 use borrow.Author.Needs.{needs}
 use Rattle.grammar.proofs.entry.exceeds.Statement.{statement}
 use Rattle.grammar.proofs.entry.exceeds.Tie as tie
 
 returns : tie.Need-returns
-unfolding isCall
-returns c =
-    c .either3 .ensures ∙ simp (
-      c .before .either2 .ensures,
-      c .before .before .either .ensures,
-      c .before .before .before .both4 .ensures,
-      c .before .before .before .before .is-node .ensures,
-      c .before .before .before .before .before .both3 .ensures,
-      c .before .before .before .before .before .before .both2 .ensures,
-      c .before .before .before .before .before .before .before .both .ensures,
-      c .before .before .before .before .before .before .before .before .longest .ensures,
+returns c = rw (← c .before .passes .ensures, c .if1 .taken)
+
+returns-2 : tie.Need-returns-2
+returns-2 c =
+    rw (← c .before .before .before .passes .ensures, c .before .before .if1 .left, ← c .before .passes2 .ensures, c .if2 .taken)
+
+returns-3 : tie.Need-returns-3
+returns-3 c =
+    c .exceeds-input .ensures ∙ rw (
+      ← c .before .before .before .before .passes .ensures,
+      c .before .before .before .if1 .left,
+      ← c .before .before .passes2 .ensures,
+      c .before .if2 .left,
     )
 
 pub exceeds-spec : {M : Type 1} → statement M
-exceeds-spec =
-    tie.close
-    (tie.spec
-    (λ c κs. search needs) (λ c κs. search needs) (λ c κs. search needs) (λ c κs. search needs) (λ c κs. search needs)
-    (λ c κs. search needs) (λ c κs. search needs) (λ c κs. search needs) (λ c κs. search needs) returns)
+exceeds-spec = tie.close (tie.spec (λ c κs. search needs) returns (λ c κs. search needs) returns-2 (λ c κs. search needs) returns-3)

@@ -1,4 +1,4 @@
--- `tape::accept::accept` meets its contract.
+-- `tape::accept::accept` meets its contract: the table is document 01's.
 -- Assumes nothing.
 use mathlib.Core.Path.{_∙_}
 use borrow.Author.Needs.{needs}
@@ -6,14 +6,7 @@ use Rattle.tape.proofs.accept.accept.Statement.{statement}
 use Rattle.tape.proofs.accept.accept.Tie as tie
 
 returns : tie.Need-returns
-returns c =
-    c .accept-in .ensures ∙ rw (← c .before .before .before .before .«open» .ensures, c .before .before .l .given .1)
-
-returns-2 : tie.Need-returns-2
-returns-2 c = rw (← c .before .before .before .«open» .ensures, c .before .n .given .1)
+returns c = c .accept-by .ensures ∙ rw (c .before .before .table .ensures)
 
 pub accept-spec : {M : Type 1} → statement M
-accept-spec =
-    tie.close
-    (tie.spec
-    (λ c κs. search needs) (λ c. search needs) (λ c κs. search needs) (λ c. search needs) returns returns-2)
+accept-spec = tie.close (tie.spec (λ c κs. search needs) (λ c. search needs) (λ c κs. search needs) returns)

@@ -22,18 +22,18 @@ use Rattle.tape.proofs.scan.run.Statement.{statement}
 use Rattle.tape.proofs.scan.run.Tie as tie
 
 -- the stack with the root's sort alone
-start : (stack : List ℕ) (sort : ℕ) → sort < 25 → waitsOf (cell sort 0 0 0) ++ stackOf stack (length stack) ≡ wait sort 0 0 ∷ []
+start : (stack : List ℕ) (sort : ℕ) → sort < 32 → waitsOf (cell sort 0 0 0) ++ stackOf stack (length stack) ≡ wait sort 0 0 ∷ []
 unfolding waitsOf
 start stack sort g = rw (drop-length stack, lt-ltb sort 64 (omega arith))
 
 abbrev Inv-loop : tie.InvT-loop
-Inv-loop stack₀ grammar s l sort limited entries cells top₀ at₀ text₀ over₀ stack top at text over =
+Inv-loop stack₀ grammar s l sort longest entries cells top₀ at₀ text₀ over₀ stack top at text over =
     (length stack ≡ cells) × (top ≤ cells) × (cells + at₀ ≤ top + at + 1) × (at₀ ≤ at) × (at ≤ l .entries) × (text ≤ l .size)
-    × (scanOf limited (l .size) (entriesAt s l at text (l .entries - at)) (stackOf stack top) at text over
-    ≡ scanFrom s l (record { at = at₀; text = text₀ }) sort limited)
+    × (scanOf grammar longest (l .size) (entriesAt grammar s l at text (l .entries - at)) (stackOf stack top) at text over
+    ≡ scanFrom grammar s l (record { at = at₀; text = text₀ }) sort longest)
 
 abbrev μ-loop : tie.MeasureT-loop
-μ-loop stack₀ grammar s l sort limited entries cells top₀ at₀ text₀ over₀ stack top at text over = l .entries - at
+μ-loop stack₀ grammar s l sort longest entries cells top₀ at₀ text₀ over₀ stack top at text over = l .entries - at
 
 put-requires : tie.Need-put-requires Inv-loop μ-loop
 put-requires c κs =
@@ -53,14 +53,14 @@ loop-holds c =
     let a = c .before .before .before .before .before .before .before .before .args in
     let p = c .before .before .put .ensures in
     let pre = c .before .before .before .before .before .before .before .before .pre in
-    let es = entriesAt (now (a .s)) (a .l) (a .from .at) (a .from .text) (a .l .entries - a .from .at) in (
+    let es = entriesAt (now (a .grammar)) (now (a .s)) (a .l) (a .from .at) (a .from .text) (a .l .entries - a .from .at) in (
       c .before .before .put .kept .0,
       p .up,
       omega (arith, p .most),
       omega arith,
       pre .1 .at-most,
       pre .1 .text-most,
-      ap (λ (st : List Wait). scanOf (a .limited) (a .l .size) es st (a .from .at) (a .from .text) false)
+      ap (λ (st : List Wait). scanOf (now (a .grammar)) (a .longest) (a .l .size) es st (a .from .at) (a .from .text) false)
           (p .stack-is ∙ ap (λ (x : Cell). waitsOf x ++ stackOf (now (a .stack)) (length (now (a .stack)))) (c .before .before .before .first-cell .ensures)
           ∙ start (now (a .stack)) (a .sort) (pre .1 .is-sort)),
     )
@@ -72,7 +72,7 @@ returns : tie.Need-returns Inv-loop μ-loop
 returns c =
     let a = c .before .before .before .before .before .before .before .before .before .before .before .args in
     let l = c .before .before .loop in
-    sym (used-up (a .limited) (now (a .s)) (a .l) (l .stack) (l .top) (l .at) (l .text) (l .over) (omega (arith, l .inv, c .before .loop-test .taken))
+    sym (used-up (now (a .grammar)) (a .longest) (now (a .s)) (a .l) (l .stack) (l .top) (l .at) (l .text) (l .over) (omega (arith, l .inv, c .before .loop-test .taken))
     (omega arith))
     ∙ l .inv .6
 
@@ -81,7 +81,6 @@ take-entry-requires c κs =
     let l = c .before .before .before .loop in
     let p = c .before .before .before .before .before .before .before .before .before .before .before .before .pre in
     record {
-      table = p .2;
       held = p .1 .held;
       some-room = omega (arith, p .0, l .inv, c .before .before .loop-test .taken, c .before .if1 .left);
       some-cell = omega (arith, l .inv, c .before .before .loop-test .taken);
@@ -96,7 +95,7 @@ returns-2 : tie.Need-returns-2 Inv-loop μ-loop
 returns-2 c =
     let l = c .before .before .before .before .before .before .before .before .loop in
     let a = c .before .before .before .before .before .before .before .before .before .before .before .before .before .before .before .before .before .args in
-    let t = subst (λ (x : Turn). Turned (a .limited) (now (a .s)) (a .l) (l .stack) (l .top) (l .at) (l .text) x (c .before .before .before .before .take-entry .last .0))
+    let t = subst (λ (x : Turn). Turned (now (a .grammar)) (a .longest) (now (a .s)) (a .l) (l .stack) (l .top) (l .at) (l .text) x (c .before .before .before .before .take-entry .last .0))
     (c .enum-told .given .1) (c .before .before .before .before .take-entry .ensures) in
     sym (t (l .over)) ∙ l .inv .6
 
@@ -110,7 +109,7 @@ loop-again : tie.Need-loop-again Inv-loop μ-loop
 loop-again c =
     let l = c .before .before .before .before .before .before .before .before .before .before .loop in
     let a = c .before .before .before .before .before .before .before .before .before .before .before .before .before .before .before .before .before .before .before .args in
-    let t = subst (λ (x : Turn). Turned (a .limited) (now (a .s)) (a .l) (l .stack) (l .top) (l .at) (l .text) x (c .before .before .before .before .before .before .take-entry .last .0))
+    let t = subst (λ (x : Turn). Turned (now (a .grammar)) (a .longest) (now (a .s)) (a .l) (l .stack) (l .top) (l .at) (l .text) x (c .before .before .before .before .before .before .take-entry .last .0))
     (c .before .before .next .given .1) (c .before .before .before .before .before .before .take-entry .ensures) in (
       c .before .before .before .before .before .before .take-entry .kept .0 ∙ l .inv .0,
       omega (arith, t .up, l .inv, c .before .before .before .before .before .before .before .before .before .loop-test .taken),
@@ -128,7 +127,7 @@ returns-3 : tie.Need-returns-3 Inv-loop μ-loop
 returns-3 c =
     let a = c .before .before .before .before .before .before .before .before .before .before .args in
     let l = c .before .loop in
-    sym (ended (a .limited) (now (a .s)) (a .l) (l .stack) (l .top) (l .at) (l .text) (l .over) (omega (arith, l .inv, c .loop-test .left)))
+    sym (ended (now (a .grammar)) (a .longest) (now (a .s)) (a .l) (l .stack) (l .top) (l .at) (l .text) (l .over) (omega (arith, l .inv, c .loop-test .left)))
     ∙ l .inv .6
 
 pub run-spec : {M : Type 1} → statement M

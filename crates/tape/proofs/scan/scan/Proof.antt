@@ -10,7 +10,7 @@ use Rattle.tape.proofs.scan.scan.Tie as tie
 
 scan-held-requires : tie.Need-scan-held-requires
 scan-held-requires c κs =
-    let a = c .before .before .before .args in
+    let a = c .before .before .before .before .args in
     started (now (a .s)) (a .l) (a .from) (a .sort) (from-true (sym (c .before .starts .ensures) ∙ c .if1 .taken))
 
 returns : tie.Need-returns

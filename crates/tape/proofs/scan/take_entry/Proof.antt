@@ -1,9 +1,8 @@
 -- `tape::scan::take_entry` meets its contract.
 -- Assumes nothing.
-use mathlib.Core.Path.{sym, _∙_}
-use Prim.Native.Nat.{_-_, _%_}
+use mathlib.Core.Path.{refl, sym, _∙_}
+use Prim.Native.Nat.{_-_}
 use borrow.Author.Tests.{not-true, not-false}
-use Rattle.grammar.specs.Stack.{followsOf}
 use Rattle.tape.proofs.Turns.{let-in, refused, goes-on}
 use borrow.Author.Needs.{needs}
 use native.Mathlib.Omega.{arith}
@@ -13,90 +12,51 @@ use Rattle.tape.proofs.scan.take_entry.Tie as tie
 
 returns : tie.Need-returns
 returns c =
-    let a = c .before .before .before .before .before .before .before .before .before .before .args in
-    let p = c .before .before .before .before .before .before .before .before .before .before .pre in
+    let a = c .before .before .before .before .before .before .before .args in
+    let p = c .before .before .before .before .before .before .before .pre in
     λ over.
-    refused (a .limited) (now (a .s)) (a .l) (now (a .stack)) (a .top) (a .at) (a .text) over (p .some-cell) (p .some-entry)
-    (c .before .before .before .before .before .unpack .result) (c .before .before .before .head-at .result)
-    (c .before .before .row-of .result)
-    (c .before .before .before .before .before .unpack .ensures .0) (c .before .before .before .head-at .ensures)
-    (c .before .before .row-of .ensures)
+    refused (now (a .grammar)) (a .longest) (now (a .s)) (a .l) (now (a .stack)) (a .top) (a .at) (a .text) over (p .some-cell)
+    (p .some-entry) _ (c .before .before .head-at .result) refl (c .before .before .head-at .ensures .0)
     (sym (c .before .accepts .ensures) ∙ not-true _ (c .if1 .taken))
 
 advance-requires : tie.Need-advance-requires
 advance-requires c κs =
+    let a = c .before .before .before .before .before .before .before .before .before .args in
+    let p = c .before .before .before .before .before .before .before .before .before .pre in
+    let h = p .held in
+    let e = c .before .before .before .before .head-at in
+    let g = let-in (a .l .entries - a .at - 1) (a .l .size - a .text) (e .result)
+    (sym (c .before .before .before .accepts .ensures) ∙ not-false _ (c .before .before .if1 .left)) in
+    (p .some-room, p .some-cell, e .ensures .1, omega (arith, g .0, h .entries-most))
+
+add-t19 : tie.Need-add-t19
+add-t19 c =
     let a = c .before .before .before .before .before .before .before .before .before .before .before .before .args in
     let p = c .before .before .before .before .before .before .before .before .before .before .before .before .pre in
-    let h = p .held in
-    let g =
-    let-in (c .before .before .before .before .before .before .before .unpack .result .word % 64)
-    (a .l .entries - a .at - 1) (a .l .size - a .text)
-    (c .before .before .before .before .row-of .result .values)
-    (followsOf (c .before .before .before .before .row-of .result .follows))
-    (c .before .before .before .before .before .head-at .result)
-    (sym (c .before .before .before .accepts .ensures) ∙ not-false _ (c .before .before .if1 .left)) in (
-      p .some-room,
-      p .some-cell,
-      c .before .before .before .before .before .before .before .unpack .ensures .1,
-      c .before .before .before .before .row-of .ensures .word-fits,
-      omega (arith, g .0, h .entries-most),
-    )
-
-add-t21 : tie.Need-add-t21
-add-t21 c =
-    let a = c .before .before .before .before .before .before .before .before .before .before .before .before .before .before .before .args in
-    let p = c .before .before .before .before .before .before .before .before .before .before .before .before .before .before .before .pre in
-    let g =
-    let-in (c .before .before .before .before .before .before .before .before .before .before .unpack .result .word % 64)
-    (a .l .entries - a .at - 1) (a .l .size - a .text)
-    (c .before .before .before .before .before .before .before .row-of .result .values)
-    (followsOf (c .before .before .before .before .before .before .before .row-of .result .follows))
-    (c .before .before .before .before .before .before .before .before .head-at .result)
-    (sym (c .before .before .before .before .before .before .accepts .ensures)
-    ∙ not-false _ (c .before .before .before .before .before .if1 .left)) in
-    omega (
-      arith,
-      g .1,
-      p .some-text,
-      c .before .before .before .before .before .before .before .before .before .before .before .before .before .before .before .fits,
-      c .before .before .before .before .before .before .before .before .before .before .before .before .before .before .before .good,
-    )
+    let g = let-in (a .l .entries - a .at - 1) (a .l .size - a .text) (c .before .before .before .before .before .before .before .head-at .result)
+    (sym (c .before .before .before .before .before .before .accepts .ensures) ∙ not-false _ (c .before .before .before .before .before .if1 .left)) in
+    omega (arith, g .1, p .some-text, c .before .before .before .before .before .before .before .before .before .before .before .before .fits, c .before .before .before .before .before .before .before .before .before .before .before .before .good)
 
 returns-2 : tie.Need-returns-2
 returns-2 c =
-    let a = c .before .before .before .before .before .before .before .before .before .before .before .before .before .before .before .args in
-    let p = c .before .before .before .before .before .before .before .before .before .before .before .before .before .before .before .pre in
+    let a = c .before .before .before .before .before .before .before .before .before .before .before .before .args in
+    let p = c .before .before .before .before .before .before .before .before .before .before .before .before .pre in
+    let e = c .before .before .before .before .before .before .before .head-at in
     let v = c .before .before .advance .ensures in
-    let g =
-    let-in (c .before .before .before .before .before .before .before .before .before .before .unpack .result .word % 64)
-    (a .l .entries - a .at - 1) (a .l .size - a .text)
-    (c .before .before .before .before .before .before .before .row-of .result .values)
-    (followsOf (c .before .before .before .before .before .before .before .row-of .result .follows))
-    (c .before .before .before .before .before .before .before .before .head-at .result)
-    (sym (c .before .before .before .before .before .before .accepts .ensures)
-    ∙ not-false _ (c .before .before .before .before .before .if1 .left)) in
+    let ok = sym (c .before .before .before .before .before .before .accepts .ensures) ∙ not-false _ (c .before .before .before .before .before .if1 .left) in
+    let g = let-in (a .l .entries - a .at - 1) (a .l .size - a .text) (e .result) ok in
     record {
       up = v .up;
       most = omega (arith, v .most);
       text-most = omega (arith, g .1, p .some-text);
       goes-on = λ over.
           rw (v .stack-is, c .before .before .before .before .exceeds .ensures)
-          (goes-on (a .limited) (now (a .s)) (a .l) (now (a .stack)) (a .top) (a .at) (a .text) over (p .some-cell)
-          (p .some-entry)
-          (c .before .before .before .before .before .before .before .before .before .before .unpack .result)
-          (c .before .before .before .before .before .before .before .before .head-at .result)
-          (c .before .before .before .before .before .before .before .row-of .result)
-          (c .before .before .before .before .before .before .before .before .before .before .unpack .ensures .0)
-          (c .before .before .before .before .before .before .before .before .head-at .ensures)
-          (c .before .before .before .before .before .before .before .row-of .ensures)
-          (sym (c .before .before .before .before .before .before .accepts .ensures)
-          ∙ not-false _ (c .before .before .before .before .before .if1 .left)));
+          (goes-on (now (a .grammar)) (a .longest) (now (a .s)) (a .l) (now (a .stack)) (a .top) (a .at) (a .text) over (p .some-cell)
+          (p .some-entry) _ (e .result) refl (e .ensures .0) ok);
     }
 
 pub take-entry-spec : {M : Type 1} → statement M
 take-entry-spec =
     tie.close
     (tie.spec
-    (λ c. search needs) (λ c. search needs) (λ c κs. search needs) (λ c κs. search needs) (λ c κs. search needs)
-    (λ c. search needs) (λ c. search needs) (λ c. search needs) (λ c κs. search needs) returns (λ c κs. search needs)
-    advance-requires add-t21 (λ c. search needs) returns-2)
+    (λ c. search needs) (λ c. search needs) (λ c κs. search needs) (λ c. search needs) (λ c. search needs) (λ c. search needs) (λ c κs. search needs) returns (λ c κs. search needs) advance-requires add-t19 (λ c. search needs) returns-2)

@@ -1,0 +1,108 @@
+//! How much stack the deepest inputs take.
+
+use crate::count;
+use crate::families::{since, tp};
+use crate::inputs::{call, condition, condition_call, definition, hours, list, predicate};
+use differential::case::{Case, Operation};
+use differential::compare::Machine;
+use differential::tape::{Node, encode};
+use std::ffi::c_void;
+
+/// The operation, what is deep in it, and the bytes of stack that it takes.
+pub fn measured(machine: &mut dyn Machine) -> Vec<(Operation, &'static str, usize)> {
+    let there: Vec<_> = deepest().into_iter().filter(|(_, case)| machine.has(case.operation)).collect();
+    there.into_iter().map(|(what, case)| (case.operation, what, bytes(|| count::by_archive(&case, machine)))).collect()
+}
+
+fn deepest() -> Vec<(&'static str, Case)> {
+    let registry = |left| encode(&list(1, vec![deep_definition(left), passing_on()]));
+    let mut all = Vec::new();
+    for (left, body, rule) in [
+        (true, "a body of 62 Since to the left", "60 Since to the left, four calls, a body of 62 Since"),
+        (false, "a body of 62 Since to the right", "60 Since to the right, four calls, a body of 62 Since"),
+    ] {
+        let (one, called) = (encode(&deep_definition(left)), encode(&call("deep", 7, vec![hours(1)])));
+        all.push((body, Case::new(Operation::Check, 0, vec![one.clone()])));
+        all.push((body, Case::new(Operation::Registry, 0, vec![registry(left)])));
+        all.push((body, Case::new(Operation::Substitute, u32::MAX, vec![one, called])));
+        let deep = encode(&deep_rule(left));
+        all.push((rule, Case::new(Operation::Expand, u32::MAX, vec![registry(left), deep])));
+    }
+    all.sort_by_key(|(_, case)| case.operation);
+    all
+}
+
+/// Nesting 64, as deep as may be: 62 Since, a predicate, and the term in its field.
+fn deep_definition(left: bool) -> Node {
+    let innermost = predicate("P", "", vec![("f", Node::with_text(33, b"t"))]);
+    definition("deep", &["d"], since(62, left, Node::with_text(52, b"d"), innermost, tp(45)))
+}
+
+/// `pass(c)` is `?c`.
+fn passing_on() -> Node {
+    definition("pass", &["c"], Node::new(12, 0, vec![Node::with_text(58, b"c")]))
+}
+
+/// Nesting 64 again: 60 Since around four calls inside one another. What it becomes is too large, but only when the
+/// innermost call was walked.
+fn deep_rule(left: bool) -> Node {
+    let innermost = condition_call("deep", 7, vec![hours(1)]);
+    let calls = (0..3).fold(innermost, |inner, _| condition_call("pass", 7, vec![condition(inner)]));
+    since(60, left, Node::new(50, 1, vec![]), calls, tp(43))
+}
+
+// ------------------------------------------------------------------ a stack that can be looked at
+
+/// The size of the stack that is lent.
+const SIZE: usize = 4 << 20;
+/// What it is full of. A number that no frame is likely to hold eight times.
+const PAINT: u64 = 0xA5C3_96E1_5A3C_691E;
+
+/// What the thread is given: what it is to run, and where its stack stood before.
+struct Job<'a> {
+    run: &'a mut dyn FnMut(),
+    top: usize,
+}
+
+/// Room for glibc's `pthread_attr_t`.
+#[repr(C, align(16))]
+struct Attributes([u8; 64]);
+
+unsafe extern "C" {
+    fn pthread_attr_init(attributes: *mut Attributes) -> i32;
+    fn pthread_attr_setstack(attributes: *mut Attributes, stack: *mut c_void, size: usize) -> i32;
+    fn pthread_create(
+        thread: *mut usize,
+        attributes: *const Attributes,
+        start: extern "C" fn(*mut c_void) -> *mut c_void,
+        argument: *mut c_void,
+    ) -> i32;
+    fn pthread_join(thread: usize, value: *mut *mut c_void) -> i32;
+}
+
+extern "C" fn start(job: *mut c_void) -> *mut c_void {
+    let here = 0u8;
+    // SAFETY: the job outlives the thread, which is joined, and nobody else has it meanwhile.
+    let job = unsafe { &mut *job.cast::<Job>() };
+    job.top = (&raw const here).addr();
+    (job.run)();
+    std::ptr::null_mut()
+}
+
+/// Runs something on a painted stack: the bytes from where it began to the lowest one that lost its paint.
+fn bytes(mut run: impl FnMut()) -> usize {
+    let mut stack = vec![PAINT; SIZE / 8];
+    let mut job = Job { run: &mut run, top: 0 };
+    let (mut attributes, mut thread) = (Attributes([0; 64]), 0);
+    // SAFETY: the stack is ours, and is neither moved nor looked at before the thread has ended.
+    let failed = unsafe {
+        pthread_attr_init(&mut attributes)
+            | pthread_attr_setstack(&mut attributes, stack.as_mut_ptr().cast(), SIZE)
+            | pthread_create(&mut thread, &attributes, start, (&raw mut job).cast())
+            | pthread_join(thread, std::ptr::null_mut())
+    };
+    assert_eq!(failed, 0, "no thread on a stack of its own");
+    let lowest = stack.iter().position(|word| *word != PAINT).expect("the stack was used");
+    assert!(lowest > 0, "the stack was too small");
+    job.top - stack[lowest..].as_ptr().addr()
+}

@@ -1,7 +1,0 @@
--- The laws that several proofs of the crate cite.
-mod Steps
-pub mod TreesBodies
-pub mod TreesGives
-pub mod TreesLevels
-pub mod TreesOutcome
-pub mod TreesResolve

@@ -1,0 +1,116 @@
+-- Tables that are well made: the marks of their codes are the tests of format. The table of document 01 is one.
+-- Assumes nothing.
+use Prim.Native.Nat.{ℕ, _+_, _≤_, _<_}
+use mathlib.Core.Path.{_≡_, refl, sym}
+use mathlib.Core.Bool.{Bool, true, false, _&&_}
+use mathlib.Core.List.{List, [], _∷_}
+use native.Mathlib.Decide.{decLt}
+use native.Mathlib.Omega.{arith}
+use borrow.Author.Tests.{ne-eqb}
+use lib.Dec.{T, leb, ltb, eqb, leb→le, ltb→lt, eqb→eq}
+use lib.ListN.{List·getD-eq-default}
+use Rattle.format.specs.Limits.{isNode, isCall, weigh}
+use Rattle.format.specs.Macro.{isCode}
+use Rattle.format.specs.Tape.{isText, longestText}
+use Rattle.format.proofs.Tests.{and-left, and-right, is-false}
+use Rattle.grammar.specs.Words.{temporalWords, rowAt, textMark, longMark, nameMark, nestingOf, callsOf, longestOf}
+use Rattle.grammar.proofs.Table.{at, same, same-eq}
+
+-- A table whose marks say which values are the lengths of texts, as format does for every tape; and which of its codes count in nesting and
+-- as calls.
+pub record Table : Type 0 where
+  pub words : List ℕ
+  pub nodes : ℕ → Bool
+  pub calls : ℕ → Bool
+  pub texts-are : (c : ℕ) → textMark (rowAt words c) ≡ isText c
+  pub nodes-are : (c : ℕ) → nestingOf (rowAt words c) ≡ weigh (nodes c)
+  pub calls-are : (c : ℕ) → callsOf (rowAt words c) ≡ weigh (calls c)
+
+-- ------------------------------------------------------------------ past the last code
+
+pub past-row : (c : ℕ) → 77 ≤ c → rowAt temporalWords c ≡ 0
+unfolding temporalWords
+past-row c h = List·getD-eq-default temporalWords 0 {n = 32 + c} (omega arith)
+
+-- codes of which the highest is below n
+abbrev below : ℕ → List ℕ → Bool
+below n [] = true
+below n (k ∷ ks) = ltb k n && below n ks
+
+no-code : (ks : List ℕ) (c : ℕ) → T (below 77 ks) → 77 ≤ c → isCode ks c ≡ false
+unfolding isCode
+no-code [] c t h = refl
+no-code (k ∷ ks) c t h =
+    let g = ltb→lt k 77 (and-left (ltb k 77) _ t) in
+    rw (ne-eqb c k (λ (e : c ≡ k). omega arith)) (no-code ks c (and-right (ltb k 77) _ t) h)
+
+no-node : (c : ℕ) → 77 ≤ c → isNode c ≡ false
+unfolding isNode
+no-node c h =
+    rw (outside 1 13 (omega arith), outside 20 36 (omega arith))
+  where
+    outside : (low high : ℕ) → high < c → (leb low c && leb c high) ≡ false
+    outside low high g = is-false (λ t. let k = leb→le c high (and-right (leb low c) _ t) in omega arith)
+
+-- a law of the codes that there are, which is computed, and of those past them
+pub everywhere : {P : ℕ → Type 0} → ((c : ℕ) → c < 77 → P c) → ((c : ℕ) → 77 ≤ c → P c) → (c : ℕ) → P c
+everywhere {P} inside past c = go (decLt c 77)
+  where
+    go : Dec (c < 77) → P c
+    go (yes g) = inside c g
+    go (no g) = past c (omega arith)
+
+-- ------------------------------------------------------------------ the marks of document 01's table
+
+pub text-marks : (c : ℕ) → textMark (rowAt temporalWords c) ≡ isText c
+unfolding temporalWords isText isCode
+text-marks =
+    everywhere (λ c h. same-eq _ _ (at (λ (k : ℕ). same (textMark (rowAt temporalWords k)) (isText k)) 0 77 tt c (omega arith) h))
+    (λ c h. rw (past-row c h) (sym (no-code (22 ∷ 23 ∷ 27 ∷ 32 ∷ 33 ∷ 40 ∷ 43 ∷ 44 ∷ 45 ∷ 52 ∷ 58 ∷ 59 ∷ []) c tt h)))
+
+pub long-marks : (c : ℕ) → longMark (rowAt temporalWords c) ≡ isCode (22 ∷ 23 ∷ []) c
+unfolding temporalWords isCode
+long-marks =
+    everywhere
+    (λ c h. same-eq _ _ (at (λ (k : ℕ). same (longMark (rowAt temporalWords k)) (isCode (22 ∷ 23 ∷ []) k)) 0 77 tt c (omega arith) h))
+    (λ c h. rw (past-row c h) (sym (no-code (22 ∷ 23 ∷ []) c tt h)))
+
+pub name-marks : (c : ℕ) → nameMark (rowAt temporalWords c) ≡ isCode (27 ∷ 43 ∷ []) c
+unfolding temporalWords isCode
+name-marks =
+    everywhere
+    (λ c h. same-eq _ _ (at (λ (k : ℕ). same (nameMark (rowAt temporalWords k)) (isCode (27 ∷ 43 ∷ []) k)) 0 77 tt c (omega arith) h))
+    (λ c h. rw (past-row c h) (sym (no-code (27 ∷ 43 ∷ []) c tt h)))
+
+pub node-marks : (c : ℕ) → nestingOf (rowAt temporalWords c) ≡ weigh (isNode c)
+unfolding temporalWords isNode weigh
+node-marks =
+    everywhere
+    (λ c h. eqb→eq _ _ (at (λ (k : ℕ). eqb (nestingOf (rowAt temporalWords k)) (weigh (isNode k))) 0 77 tt c (omega arith) h))
+    (λ c h. rw (past-row c h, no-node c h))
+
+pub call-marks : (c : ℕ) → callsOf (rowAt temporalWords c) ≡ weigh (isCall c)
+unfolding temporalWords isCall weigh
+call-marks =
+    everywhere
+    (λ c h. eqb→eq _ _ (at (λ (k : ℕ). eqb (callsOf (rowAt temporalWords k)) (weigh (isCall k))) 0 77 tt c (omega arith) h))
+    (λ c h. rw (past-row c h, ne-eqb c 54 (λ (e : c ≡ 54). omega arith)))
+
+-- with 64 for names the longest texts are format's
+pub longest-marks : (c : ℕ) → longestOf 64 (rowAt temporalWords c) ≡ longestText (isCode (22 ∷ 23 ∷ []) c)
+unfolding temporalWords isCode longestText
+longest-marks =
+    everywhere
+    (λ c h. eqb→eq _ _ (at (λ (k : ℕ). eqb (longestOf 64 (rowAt temporalWords k)) (longestText (isCode (22 ∷ 23 ∷ []) k))) 0 77 tt c (omega arith) h))
+    (λ c h. rw (past-row c h, no-code (22 ∷ 23 ∷ []) c tt h))
+
+abbrev pub temporal : Table
+temporal =
+    record {
+      words = temporalWords;
+      nodes = isNode;
+      calls = isCall;
+      texts-are = text-marks;
+      nodes-are = node-marks;
+      calls-are = call-marks;
+    }

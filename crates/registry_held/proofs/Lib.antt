@@ -1,0 +1,2 @@
+-- The laws that several proofs of the crate cite.
+mod Registries

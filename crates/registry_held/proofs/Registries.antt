@@ -1,0 +1,105 @@
+-- What a registry holds that was built of a tape, and what a name finds in it.
+-- Assumes nothing.
+use Prim.Native.Nat.{ℕ}
+use native.Mathlib.Omega.{arith}
+use mathlib.Core.Path.{_≡_, refl, sym, subst, ap, _∙_}
+use mathlib.Core.List.{List, []}
+use mathlib.Core.Bool.{Bool, true, false}
+use mathlib.Core.Option.{Option}
+use lib.Dec.{leb}
+use Rattle.format.specs.Entry.{Text}
+use Rattle.format.specs.Ast.{MacroDef}
+use Rattle.format.specs.Flat.{flatParams}
+use Rattle.format.specs.Tape.{Reading, registryRoot, read, Bytes}
+use Rattle.definition.specs.Outcome.{openOutcome}
+use Rattle.definition.specs.Registry.{get, build}
+use Rattle.definition.specs.Answers.{Answer, answer, messageAlone, numberAlone, reading, verdict, messageAnswer, registryAnswer, openAnswers}
+use Rattle.grammar.specs.Grammar as grammar
+use Rattle.tape.specs.Accept.{acceptOf}
+use Rattle.tape.specs.declared.header.Opened.{Opened}
+use Rattle.tape.specs.declared.header.Opened.the-variants as opened
+use Rattle.tape.specs.declared.layout.Layout.{Layout}
+use Rattle.tape.proofs.Acceptance.{Answers, answers-2, answers-3, answers-tape, answers}
+use Rattle.tape.proofs.Located.{past-place}
+use Rattle.tape.proofs.Roots.{registry-root, accepted-root}
+use Rattle.answer.specs.Matches.{answerWith}
+use Rattle.registry.specs.Places.{indexAt, getAt}
+use Rattle.registry.specs.declared.Found.{Found}
+use Rattle.registry.specs.declared.Found.the-variants.{Nothing}
+use Rattle.registry.proofs.Standing.{Finds, finds-nothing, finds, get-finds, indexed-registry}
+use Rattle.registry_held.specs.Held.{layoutOf, Holds, of-tape, of-nothing, Builds, FoundMatches, GetMatches}
+use Rattle.registry_held.specs.declared.Built.{Built}
+
+-- ------------------------------------------------------------------ building
+
+-- a registry of number 0 was read
+pub was-read : (m : ℕ) (s : List ℕ) → registryAnswer m s .number ≡ 0 → (defs : List MacroDef) × (read registryRoot s ≡ Reading.accepted defs)
+unfolding registryAnswer openAnswers openOutcome
+was-read m s e = go (leb 2048 m) (read registryRoot s) refl e
+  where
+    tape : Unit {0} → List ℕ
+    tape u = []
+
+    go : (b : Bool) (r : Reading (List MacroDef)) → read registryRoot s ≡ r
+        → answer tape (messageAlone m) (elim b [ true ↦ reading r (λ defs. verdict (build defs)) | false ↦ numberAlone 1 ]) .number ≡ 0
+        → (defs : List MacroDef) × (read registryRoot s ≡ Reading.accepted defs)
+    go false r q e = absurd (omega arith)
+    go true Reading.malformed q e = absurd (omega arith)
+    go true Reading.tooLarge q e = absurd (omega arith)
+    go true (Reading.accepted defs) q e = (defs, q)
+
+-- where a tape was read, its acceptance has its layout
+opened-read : (s : List ℕ) {defs : List MacroDef} → read registryRoot s ≡ Reading.accepted defs
+    → acceptOf s grammar.definitions ≡ opened.Tape (layoutOf (acceptOf s grammar.definitions))
+opened-read s {defs} e = go (answers registry-root s) e
+  where
+    go : {x : Opened} {y : Reading (List MacroDef)} → Answers registryRoot s x y → y ≡ Reading.accepted defs → x ≡ opened.Tape (layoutOf x)
+    go answers-2 e = absurd (let z : _≡_ {A = ℕ} 0 1 = cc in omega arith)
+    go answers-3 e = absurd (let z : _≡_ {A = ℕ} 0 1 = cc in omega arith)
+    go (answers-tape h p) e = refl
+
+pub builds : (s : List ℕ) (m : ℕ) (message : List ℕ) (b : Built) → answerWith (b .answer) [] [] message ≡ registryAnswer m s
+    → b .layout ≡ layoutOf (acceptOf s grammar.definitions) → Builds s m message b
+builds s m message b e q =
+    record {
+      answers = e;
+      holds = λ z.
+          let x = was-read m s (sym (ap (λ (a : Answer). a .number) e) ∙ z) in
+          (x .0, x .1, of-tape z (x .1) (opened-read s (x .1) ∙ ap opened.Tape (sym q)));
+    }
+
+-- ------------------------------------------------------------------ a name
+
+module _ {s : List ℕ} {l : Layout} where
+  found-matches : {f : Found} {o : Option MacroDef} → Finds s l f o → FoundMatches s l f o
+  unfolding FoundMatches
+  found-matches finds-nothing = tt
+  found-matches (finds {params = params} {d = d} h) =
+      record {
+        its-span = h .its-span;
+        its-name = h .spelled;
+        its-count = h .its-count;
+        its-params = h .params-stand .run .stands;
+        its-body = rw (past-place (flatParams (d .params)) params) at (h .body-stands .run .stands);
+      }
+
+-- a registry that did not pass holds nothing
+pub nothing-found : (s name : List ℕ) (b : Built) → (b .answer .number ≡ 0 → ⊥)
+    → GetMatches s b name Nothing
+unfolding FoundMatches get
+nothing-found s name b n defs (of-tape z e a) = absurd (n z)
+nothing-found s name b n defs (of-nothing h) = tt
+
+pub name-found : (s name : List ℕ) (b : Built) {f : Found} → Bytes s → b .answer .number ≡ 0
+    → f ≡ getAt s (b .layout) (indexAt s (b .layout) 255) name
+    → GetMatches s b name f
+unfolding registryRoot
+name-found s name b {f} bytes z q defs (of-nothing h) = absurd (h z)
+name-found s name b {f} bytes z q defs (of-tape n e a) =
+    let x = accepted-root registry-root s bytes (b .layout) a in
+    let same : x .0 ≡ defs = read-once (x .0) defs (x .1 .reading) e in
+    rw q (subst (λ (ds : List MacroDef). FoundMatches s (b .layout) (getAt s (b .layout) (indexAt s (b .layout) 255) name) (get ds name)) same
+    (found-matches (get-finds (indexed-registry (x .0) (x .1)) name)))
+  where
+    read-once : (ds es : List MacroDef) → read registryRoot s ≡ Reading.accepted ds → read registryRoot s ≡ Reading.accepted es → ds ≡ es
+    read-once ds es p q = let r : Reading.accepted ds ≡ Reading.accepted es = sym p ∙ q in cc

@@ -1,9 +1,0 @@
--- `substitution_walk::tp` meets its contract.
--- Assumes nothing.
-use borrow.Author.Needs.{needs}
-use Rattle.substitution_walk.proofs.Walking.{tp-walked}
-use Rattle.substitution_walk.proofs.tp.Statement.{statement}
-use Rattle.substitution_walk.proofs.tp.Tie as tie
-
-pub tp-spec : {M : Type 1} → statement M
-tp-spec = tie.close (tie.spec (λ c κs. search needs) (λ c κs. search needs) (λ c. search needs) (λ c. search tp-walked))
