@@ -138,7 +138,8 @@ pub fn write_size(s: &mut [u8], at: usize, size: usize)
     write(s, at, &bytes[0..4]);
 }
 
-// How many decimal digits a number has.
+// How many decimal digits a number has. Document 02, point 2: digits are found by dividing numbers of 32 bits and no wider ones, here and
+// below, which the parameter's type says.
 pub fn digit_count(n: u32) -> usize
     ensures { λ r. ⌜ r ≡ length (decimal n) ⌝ }
 {

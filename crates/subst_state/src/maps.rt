@@ -139,7 +139,15 @@ pub fn find_arguments(s: &[u8], l: Layout, first: Place, count: u64, args: &mut 
 fn argument_at(args: &[usize], i: usize) -> Found
     ensures { λ r. ⌜ r ≡ argumentIn (now (args .entry)) i ⌝ }
 {
-    if args.len() / 6 <= i {
+    // whether six numbers stand behind 6 * i others, without a division by six: document 02, point 2
+    if args.len() / 4 <= i {
+        return Found::Nothing;
+    }
+    let left = args.len() - 4 * i;
+    if left < 6 {
+        return Found::Nothing;
+    }
+    if (left - 6) / 2 < i {
         return Found::Nothing;
     }
     let k = 6 * i;
