@@ -2,8 +2,9 @@
  *
  * Every function ends, on every input, and writes nothing outside the buffers that it is lent. A tape is read where it lies and
  * is not changed. `answer` points to five numbers; NEUKOLJA_NUMBER and so on are their places. The number is 0 for success and
- * else one of the refusals below. The span is 0..0 where a refusal has none. A message is ASCII but for the ellipsis, which is
- * E2 80 A6, and has no zero at its end.
+ * else one of the refusals below. The span is 0..0 where a refusal has none. Texts and messages are UTF-8, and a message has no
+ * zero at its end. A text on a tape that is no well-formed UTF-8 (RFC 3629), or holds 00 to 1F or 7F, is refused with
+ * NEUKOLJA_MALFORMED; lengths are bytes.
  *
  * Stack: the walks recurse as deep as tapes nest. Measured at the deepest inputs on x86-64 (`bench stack`): neukolja_check 70,847
  * bytes, neukolja_registry 14,199, neukolja_substitute 121,135, neukolja_expand 273,823. A linker script or a thread must provide

@@ -2,6 +2,7 @@
 
 use crate::random::Random;
 use crate::tape::{self, LARGEST, Measure, Node};
+use crate::texts;
 
 /// What a tree is to have more of.
 #[derive(Clone, Copy, Debug, PartialEq, Eq)]
@@ -118,20 +119,23 @@ pub fn stretch_a_text(random: &mut Random, tree: &mut Node) {
         (_, texts) => (texts, any as fn(u8) -> bool),
     };
     let length = *random.pick(&[0, 63, 64, 65, 75, 254, 255, 256]);
-    set_text(tree, wanted, &mut random.below(count), length);
+    let text = match random.weighted(&[40, 30, 30]) {
+        0 => texts::of_length(random, length),
+        cut => texts::ending_wide(random, length.max(4), cut == 2),
+    };
+    set_text(tree, wanted, &mut random.below(count), &text);
 }
 
-/// Gives the text of the entry that is wanted, after so many others, this length.
-fn set_text(node: &mut Node, wanted: fn(u8) -> bool, others: &mut usize, length: usize) -> bool {
+/// Gives the entry that is wanted, after so many others, this text.
+fn set_text(node: &mut Node, wanted: fn(u8) -> bool, others: &mut usize, text: &[u8]) -> bool {
     if wanted(node.code) {
         if *others == 0 {
-            node.text.resize(length, b'_');
-            node.value = length as u64;
+            *node = Node::with_text(node.code, text);
             return true;
         }
         *others -= 1;
     }
-    node.children.iter_mut().any(|child| set_text(child, wanted, others, length))
+    node.children.iter_mut().any(|child| set_text(child, wanted, others, text))
 }
 
 /// `name` called so many times inside its own argument, in one of the ways a 54 can stand inside another.

@@ -6,6 +6,7 @@ use crate::damage::damage;
 use crate::model::{self, Walk};
 use crate::random::Random;
 use crate::tape::{self, LARGEST_CALLS, LARGEST_PARAMETERS, LARGEST_TEXT, Node, UNBOUNDED};
+use crate::texts;
 use crate::trees::{DEPTH, Ground, MOST_DEFINITIONS, Macro, Style, Trees};
 
 /// The operation of a case is drawn first.
@@ -21,10 +22,11 @@ pub fn operation(seed: u64, index: u64) -> Operation {
 pub fn case(seed: u64, index: u64) -> Case {
     let random = &mut Random::of_case(seed, index);
     let operation = draw(random);
-    let input = match random.weighted(&[79, 11, 10]) {
+    let input = match random.weighted(&[76, 11, 10, 3]) {
         0 => input(random, operation),
         1 => at_a_limit(random, operation),
-        _ => result_at_a_limit(random, operation),
+        2 => result_at_a_limit(random, operation),
+        _ => ill_formed(random, operation),
     };
     let mut case = on_tapes(random, operation, &input);
     if random.chance(13) {
@@ -111,6 +113,16 @@ fn a_registry(g: &mut Trees) -> Node {
     }
 }
 
+/// One of the texts is not well-formed.
+fn ill_formed(random: &mut Random, operation: Operation) -> Input {
+    let mut input = input(random, operation);
+    match &mut input.second {
+        Some(second) if random.chance(50) => texts::spoil(random, second),
+        _ => texts::spoil(random, &mut input.first),
+    }
+    input
+}
+
 // ------------------------------------------------------------------ tapes at a limit
 
 fn at_a_limit(random: &mut Random, operation: Operation) -> Input {
@@ -166,16 +178,16 @@ fn many_parameters(random: &mut Random, input: &mut Input) {
     };
     let count = LARGEST_PARAMETERS + random.below(3) - 1;
     let list = &mut definition.children[1];
-    let long = random.chance(50);
+    let length = *random.pick(&[2, 5, LARGEST_TEXT, LARGEST_TEXT]);
     while list.children.len() < 2 * count {
-        let name = vec![b'a' + random.below(26) as u8; if long { LARGEST_TEXT } else { 2 }];
+        let name = texts::of_length(random, length);
         list.children.extend([Node::new(42, 0, vec![]), Node::with_text(40, &name)]);
     }
     list.value = (list.children.len() / 2) as u64;
     let parameters = list.value as usize;
     if random.chance(30) {
         // An undeclared name, for the longest message that there is.
-        let undeclared = Node::with_text(58, &[b'_'; LARGEST_TEXT]);
+        let undeclared = Node::with_text(58, &texts::of_length(random, LARGEST_TEXT));
         definition.children[2] = Node::new(62, 0, vec![Node::new(12, 0, vec![undeclared])]);
     }
     if let Some(Node { code: 54, children, .. }) = &mut input.second {
@@ -384,16 +396,13 @@ fn limit(random: &mut Random, charged: usize) -> usize {
 
 /// A damaged tape, or another than is wanted.
 fn spoil(random: &mut Random, case: &mut Case) {
-    let one = if random.chance(50) { case.tapes.len() - 1 } else { 0 };
+    let one = random.below(case.tapes.len());
     match random.weighted(&[85, 5, 5, 5]) {
         0 => damage(random, &mut case.tapes[one]),
         1 => case.tapes[one] = vec![0; random.below(12)],
         2 if case.tapes.len() > 1 => case.tapes.rotate_left(1),
         2 => case.tapes[0] = tape::encode(&Node::new(28, 0, vec![])),
-        _ => {
-            damage(random, &mut case.tapes[0]);
-            damage(random, case.tapes.get_mut(1).unwrap_or(&mut Vec::new()));
-        }
+        _ => case.tapes.iter_mut().for_each(|tape| damage(random, tape)),
     }
 }
 
@@ -403,7 +412,7 @@ fn vary_buffers(random: &mut Random, case: &mut Case) {
     match random.weighted(&[88, 8, 4]) {
         1 => there.iter().for_each(|i| case.sizes[*i] += random.size(2000)),
         2 => {
-            let i = if there.len() > 1 { *random.pick(&there) } else { there[0] };
+            let i = *random.pick(&there);
             case.sizes[i] = match random.below(3) {
                 0 => case.sizes[i] - 1,
                 1 => 0,

@@ -14,6 +14,7 @@ pub mod random;
 pub mod record;
 pub mod tally;
 pub mod tape;
+pub mod texts;
 pub mod trees;
 pub mod upstream;
 pub mod vectors;

@@ -3,7 +3,7 @@
 use crate::tape::Node;
 
 fn text(bytes: &[u8]) -> &str {
-    std::str::from_utf8(bytes).expect("text on a tape is ASCII")
+    std::str::from_utf8(bytes).expect("text on a tape is UTF-8")
 }
 
 pub fn reserved(name: &[u8]) -> String {

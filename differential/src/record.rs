@@ -61,8 +61,10 @@ enum Shows {
     Calls(usize),
     /// So many charges in a success.
     Charges(usize),
-    /// So many declared names in the message of 20.
-    Declared(usize),
+    /// So many declared names in the message of 20, and so many of them that are not ASCII alone.
+    Declared(usize, usize),
+    /// A character of so many bytes on an accepted tape, in a result or in a message.
+    Character(&'static str, usize),
     /// Exactly the limit was charged.
     WholeBudget,
     /// Buffers longer than the least, by whether there was a message.
@@ -151,6 +153,7 @@ fn shows(case: &Case, answer: &Answer, notes: &Notes) -> Vec<Shows> {
         }
         for tree in &notes.trees {
             all.extend(at_limits(tree));
+            all.extend(characters_of(tree).into_iter().map(|n| Shows::Character("tape", n)));
             tree.visit(&mut |node| {
                 if node.code == 60 && tape::measure(node).nesting == LARGEST.nesting {
                     all.push(Shows::DeepBody(node.children[2].code, success));
@@ -170,6 +173,7 @@ fn shows(case: &Case, answer: &Answer, notes: &Notes) -> Vec<Shows> {
     if let Some(result) = &notes.result {
         result.visit(&mut |node| all.push(Shows::ResultCode(node.code)));
         all.extend(generated_digits(result).map(Shows::Digits));
+        all.extend(characters_of(result).into_iter().map(|n| Shows::Character("result", n)));
         if answer.charged > 0 && answer.charged == u64::from(case.limit) {
             all.push(Shows::WholeBudget);
         }
@@ -178,9 +182,11 @@ fn shows(case: &Case, answer: &Answer, notes: &Notes) -> Vec<Shows> {
         all.push(Shows::Reserved(answer.message.clone()));
     }
     if answer.number == 20 {
-        let declared = answer.message.iter().rev().take_while(|b| **b != b':').filter(|b| **b == b'?').count();
-        all.push(Shows::Declared(declared.min(4)));
+        let declared = declared(&notes.trees[0]);
+        let wide = declared.iter().filter(|name| !name.is_ascii()).count();
+        all.push(Shows::Declared(declared.len().min(4), wide.min(4)));
     }
+    all.extend(characters(&answer.message).map(|n| Shows::Character("message", n)));
     if case.sizes[2] > case.operation.buffers()[2] && answer.number != 1 {
         all.push(Shows::LongBuffers(answer.message.is_empty()));
     }
@@ -243,6 +249,22 @@ fn at_limits(tree: &Node) -> Vec<Shows> {
         _ => {}
     });
     all.into_iter().map(|figure| Shows::AtALimit("tape", figure)).collect()
+}
+
+/// The names that a definition declares, each once.
+fn declared(definition: &Node) -> BTreeSet<&[u8]> {
+    definition.children[1].children.iter().filter(|p| p.code == 40).map(|p| p.text.as_slice()).collect()
+}
+
+/// How many bytes each character of a text has.
+fn characters(text: &[u8]) -> impl Iterator<Item = usize> {
+    std::str::from_utf8(text).expect("well-formed").chars().map(char::len_utf8)
+}
+
+fn characters_of(tree: &Node) -> BTreeSet<usize> {
+    let mut all = BTreeSet::new();
+    tree.visit(&mut |node| all.extend(characters(&node.text)));
+    all
 }
 
 /// How many digits stand behind the `$` of names that look generated.

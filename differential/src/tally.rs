@@ -4,7 +4,7 @@ use crate::case::{Answer, Case, OPERATIONS, Operation};
 use crate::compare::{WITNESSES, Witness};
 use crate::model::{Notes, TooLarge};
 use crate::places::{self, Place};
-use crate::tape::{self, Sort};
+use crate::tape::{self, Node, Sort};
 use std::collections::{BTreeMap, BTreeSet};
 
 /// The numbers that an operation can answer.
@@ -23,6 +23,8 @@ pub struct Tally {
     reasons: BTreeMap<(u64, String), u64>,
     witnesses: BTreeMap<Witness, u64>,
     places: BTreeMap<Operation, BTreeSet<Place>>,
+    /// How many texts have a character of so many bytes: of accepted tapes, of results, and messages.
+    characters: BTreeMap<(&'static str, usize), u64>,
     /// How many accepted tapes, registries and results were of which size, and how many charges a success made.
     sizes: BTreeMap<(&'static str, usize), u64>,
 }
@@ -44,10 +46,22 @@ impl Tally {
                 self.count("definitions of a registry", tree.children.len());
             }
         }
+        self.count_characters("accepted tapes", &notes.trees);
+        self.count_characters("results", notes.result.as_slice());
+        self.count_characters("messages", &[Node::with_text(40, &answer.message)]);
         if let Some(result) = &notes.result {
             self.count("entries of a result", tape::measure(result).entries);
             self.count("charges of a success", notes.charges);
         }
+    }
+
+    fn count_characters(&mut self, what: &'static str, trees: &[Node]) {
+        let mut count = |node: &Node| {
+            let text = std::str::from_utf8(&node.text).expect("well-formed");
+            let bytes: BTreeSet<usize> = text.chars().map(char::len_utf8).collect();
+            bytes.into_iter().for_each(|n| *self.characters.entry((what, n)).or_default() += 1);
+        };
+        trees.iter().for_each(|tree| tree.visit(&mut count));
     }
 
     fn count(&mut self, what: &'static str, size: usize) {
@@ -90,6 +104,15 @@ impl Tally {
             print!("{:>10} of {} {}", all.len() - unseen.len(), all.len(), op.name());
             println!("{}", if unseen.len() < 10 { format!(" {}", unseen.join(", ")) } else { String::new() });
         }
+        println!("texts with a character of 1, 2, 3 and 4 bytes:");
+        for what in ["accepted tapes", "results", "messages"] {
+            let of = |n| self.characters.get(&(what, n)).unwrap_or(&0);
+            println!("{:>10} {:>10} {:>10} {:>10} of {what}", of(1), of(2), of(3), of(4));
+        }
+        self.print_sizes();
+    }
+
+    fn print_sizes(&self) {
         println!("sizes:");
         let mut first = 0;
         print!("{:>30}", "");

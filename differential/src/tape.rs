@@ -284,9 +284,6 @@ pub fn accept(bytes: &[u8], root: Sort) -> Result<Node, Unread> {
     }
     let (codes, rest) = bytes[8..].split_at(entries);
     let (values, text) = rest.split_at(8 * entries);
-    if !text.iter().all(|b| (0x20..=0x7E).contains(b)) {
-        return Err(Unread::Malformed("byte of the text"));
-    }
     let mut reader = Reader { codes, values, text };
     let tree = reader.read(root).map_err(Unread::Malformed)?;
     match (reader.codes.is_empty() && reader.text.is_empty(), over(&tree)) {
@@ -349,7 +346,65 @@ impl Reader<'_> {
         let length = usize::try_from(length).map_err(|_| "text runs out")?;
         let (text, rest) = self.text.split_at_checked(length).ok_or("text runs out")?;
         self.text = rest;
-        Ok(text.to_vec())
+        match ill_formed(text, rest) {
+            Some(why) => Err(why),
+            None => Ok(text.to_vec()),
+        }
+    }
+}
+
+/// RFC 3629's table: for each row of it the bytes that a character may have, first to last. Of the characters of one byte
+/// the controls are left out.
+const CHARACTERS: [&[(u8, u8)]; 9] = [
+    &[(0x20, 0x7E)],
+    &[(0xC2, 0xDF), TAIL],
+    &[(0xE0, 0xE0), (0xA0, 0xBF), TAIL],
+    &[(0xE1, 0xEC), TAIL, TAIL],
+    &[(0xED, 0xED), (0x80, 0x9F), TAIL],
+    &[(0xEE, 0xEF), TAIL, TAIL],
+    &[(0xF0, 0xF0), (0x90, 0xBF), TAIL, TAIL],
+    &[(0xF1, 0xF3), TAIL, TAIL, TAIL],
+    &[(0xF4, 0xF4), (0x80, 0x8F), TAIL, TAIL],
+];
+
+const TAIL: (u8, u8) = (0x80, 0xBF);
+
+/// The length of the character that a text begins with, if it begins with one.
+fn character(text: &[u8]) -> Option<usize> {
+    let fits = |row: &&&[(u8, u8)]| {
+        text.len() >= row.len() && row.iter().zip(text).all(|((first, last), b)| (first..=last).contains(&b))
+    };
+    CHARACTERS.iter().find(fits).map(|row| row.len())
+}
+
+/// Why a text is not well-formed, if it is not. `behind` is what the tape has behind it.
+pub fn ill_formed(text: &[u8], behind: &[u8]) -> Option<&'static str> {
+    let mut rest = text;
+    while !rest.is_empty() {
+        match character(rest) {
+            Some(length) => rest = &rest[length..],
+            None if character(&[rest, behind].concat()).is_some() => return Some("character cut by a text's border"),
+            None => return Some(no_character(rest, text.len())),
+        }
+    }
+    None
+}
+
+/// What is wrong where no character begins, at the end of a text of this length.
+fn no_character(end: &[u8], length: usize) -> &'static str {
+    match end {
+        [0x00..=0x1F | 0x7F, ..] => "control character",
+        [0x80..=0xBF, ..] => "stray continuation byte",
+        [0xC0 | 0xC1, ..] | [0xE0, 0x80..=0x9F, ..] | [0xF0, 0x80..=0x8F, ..] => "overlong character",
+        [0xED, 0xA0..=0xBF, ..] => "surrogate",
+        [0xF4, 0x90..=0xBF, ..] | [0xF5..=0xFF, ..] => "character above 10FFFF",
+        [_, tail @ ..] if tail.len() < 3 && tail.iter().all(|b| (TAIL.0..=TAIL.1).contains(b)) => match length {
+            63 => "character cut at the end of 63 bytes",
+            64 => "character cut at the end of 64 bytes",
+            65 => "character cut at the end of 65 bytes",
+            _ => "character cut at a text's end",
+        },
+        _ => "character broken off",
     }
 }
 

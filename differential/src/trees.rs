@@ -2,6 +2,7 @@
 
 use crate::random::Random;
 use crate::tape::{self, LARGEST, Node};
+use crate::texts;
 
 /// How a parameter is meant to be used.
 #[derive(Clone, Copy, Debug, PartialEq, Eq)]
@@ -69,7 +70,10 @@ pub const MOST_DEFINITIONS: usize = (LARGEST.entries - 1) / LEAST_DEFINITION;
 
 const NAMES: [&str; 14] = ["a", "b", "c", "d", "s", "t", "x", "y", "z", "w", "v", "f", "g", "h"];
 const ODD_NAMES: [&str; 10] = ["", " ", "`", "?x", "$t", "x y", "in", "a.b.c", "~~~~", "0"];
-const MACRO_NAMES: [&str; 10] = ["m", "k", "w", "b", "z", "e", "n", "o", "p", "q"];
+/// Names whose order by bytes is not that of an alphabet, nor that of UTF-16: there `\u{10000}` is before `\u{E000}`.
+const WIDE_NAMES: [&str; 12] =
+    ["Küche", "Séjour", "é", "e\u{301}", "É", "ä", "ß", "日本", "€", "\u{E000}", "\u{FFFD}", "\u{10000}"];
+const MACRO_NAMES: [&str; 13] = ["m", "k", "w", "b", "z", "e", "n", "o", "p", "q", "öffne", "in\u{AD}", "😀"];
 const RESERVED: [&str; 17] = [
     "decimal", "datetime", "duration", "ip", "let", "in", "where", "for", "sum", "count", "tp", "formerly", "previous",
     "since", "true", "false", "True",
@@ -102,19 +106,16 @@ impl Trees<'_> {
         }
     }
 
-    fn printable(&mut self, length: usize) -> Vec<u8> {
-        (0..length).map(|_| self.random.within(0x20, 0x7E) as u8).collect()
-    }
-
     pub fn name(&mut self) -> Vec<u8> {
-        match self.random.weighted(&[88, 8, 3, 1]) {
+        match self.random.weighted(&[76, 8, 12, 3, 1]) {
             0 => self.random.pick(&NAMES).as_bytes().to_vec(),
             1 => self.random.pick(&ODD_NAMES).as_bytes().to_vec(),
-            2 => {
+            2 => self.random.pick(&WIDE_NAMES).as_bytes().to_vec(),
+            3 => {
                 let length = self.random.size(64);
-                self.printable(length)
+                texts::of_length(self.random, length)
             }
-            _ => self.printable(64),
+            _ => texts::of_length(self.random, 64),
         }
     }
 
@@ -123,7 +124,7 @@ impl Trees<'_> {
             0 => self.random.pick(&MACRO_NAMES).as_bytes().to_vec(),
             1 => self.random.pick(&RESERVED).as_bytes().to_vec(),
             2 => self.name(),
-            _ => self.printable(64),
+            _ => texts::of_length(self.random, 64),
         }
     }
 
@@ -377,7 +378,7 @@ impl Trees<'_> {
             1 => Node::new(21, self.amount(), vec![]),
             code @ (2 | 3) => {
                 let length = if self.random.chance(4) { 255 } else { self.random.size(20) - 1 };
-                let text = self.printable(length);
+                let text = texts::of_length(self.random, length);
                 Node::with_text(code as u8 + 20, &text)
             }
             4 => Node::new(24, self.random.below(2) as u64, vec![]),
@@ -524,7 +525,7 @@ impl Trees<'_> {
             if self.macros.iter().any(|m| m.name == name) && !self.random.chance(self.style.wrong / 2) {
                 name.push(b'0' + self.random.below(10) as u8);
                 name.push(b'0' + self.random.below(10) as u8);
-                name.truncate(64);
+                texts::shorten(&mut name, 64);
             }
             let (definition, known) = self.share(|g| g.definition(name));
             definitions.push(definition);

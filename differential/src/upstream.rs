@@ -113,7 +113,7 @@ fn span(value: u64) -> Span {
 }
 
 fn text(node: &Node) -> String {
-    String::from_utf8(node.text.clone()).expect("text on a tape is ASCII")
+    String::from_utf8(node.text.clone()).expect("text on a tape is UTF-8")
 }
 
 fn texts(nodes: &[Node]) -> Vec<String> {

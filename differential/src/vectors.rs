@@ -1,8 +1,10 @@
 //! Lists of cases with their answers, in the format that README.md gives.
 
-use crate::case::{Answer, Case, OPERATIONS};
+use crate::case::{Answer, Case, OPERATIONS, Operation};
 
 const MARK: &[u8; 8] = b"ORACLEV1";
+/// Lists with room for later operations, which are read and not written.
+const LATER_MARK: &[u8; 8] = b"ORACLEV2";
 
 pub fn write(vectors: &[(Case, Answer)]) -> Vec<u8> {
     let mut out = MARK.to_vec();
@@ -44,11 +46,13 @@ pub struct Expected {
 
 pub fn read(bytes: &[u8]) -> Result<Vec<Expected>, String> {
     let mut r = Reader { rest: bytes };
-    if r.take(8)? != MARK {
+    let mark = r.take(8)?;
+    if mark != MARK && mark != LATER_MARK {
         return Err("no list of vectors".to_string());
     }
     let count = r.u32()?;
-    let vectors = (0..count).map(|_| r.vector()).collect::<Result<Vec<_>, _>>()?;
+    let one = |_| if mark == MARK { r.vector() } else { r.later_vector() };
+    let vectors = (0..count).map(one).collect::<Result<Vec<_>, _>>()?;
     if r.rest.is_empty() { Ok(vectors) } else { Err(format!("{} bytes behind the last vector", r.rest.len())) }
 }
 
@@ -76,22 +80,42 @@ impl<'a> Reader<'a> {
         Ok(self.take(n as usize)?.to_vec())
     }
 
-    fn vector(&mut self) -> Result<Expected, String> {
+    fn operation(&mut self) -> Result<Operation, String> {
         let number = self.take(1)?[0];
-        let named = OPERATIONS.into_iter().find(|o| o.number() == number);
-        let operation = named.ok_or(format!("no operation {number}"))?;
-        let limit = self.u32()?;
+        OPERATIONS.into_iter().find(|o| o.number() == number).ok_or(format!("no operation {number}"))
+    }
+
+    fn sizes(&mut self) -> Result<[usize; 3], String> {
+        Ok([self.u32()? as usize, self.u32()? as usize, self.u32()? as usize])
+    }
+
+    fn numbers(&mut self) -> Result<[u64; 5], String> {
+        Ok([self.u64()?, self.u64()?, self.u64()?, self.u64()?, self.u64()?])
+    }
+
+    fn vector(&mut self) -> Result<Expected, String> {
+        let (operation, limit) = (self.operation()?, self.u32()?);
         let mut tapes = vec![self.bytes()?, self.bytes()?];
         tapes.truncate(operation.roots().len());
-        let mut sizes = [0; 3];
-        for size in &mut sizes {
-            *size = self.u32()? as usize;
-        }
-        let case = Case { operation, limit, tapes, sizes };
-        let mut numbers = [0; 5];
-        for n in &mut numbers {
-            *n = self.u64()?;
-        }
+        let case = Case { operation, limit, tapes, sizes: self.sizes()? };
+        Ok(Expected { case, numbers: self.numbers()?, result: self.bytes()?, message: self.bytes()? })
+    }
+
+    /// What belongs to later operations has to be 0.
+    fn later_vector(&mut self) -> Result<Expected, String> {
+        let (operation, limit) = (self.operation()?, self.u32()?);
+        self.zeros(6)?;
+        let count = self.take(1)?[0];
+        let tapes = (0..count).map(|_| self.bytes()).collect::<Result<_, _>>()?;
+        let case = Case { operation, limit, tapes, sizes: self.sizes()? };
+        self.zeros(1)?;
+        let numbers = self.numbers()?;
+        self.zeros(16)?;
         Ok(Expected { case, numbers, result: self.bytes()?, message: self.bytes()? })
+    }
+
+    fn zeros(&mut self, n: usize) -> Result<(), String> {
+        let known = self.take(n)?.iter().all(|b| *b == 0);
+        if known { Ok(()) } else { Err("a vector of a later operation".to_string()) }
     }
 }

@@ -4,6 +4,7 @@ use mathlib.Core.Path.{_≡_, refl}
 use mathlib.Core.List.{[], _∷_, map}
 use mathlib.Core.Option.{none, some}
 use Rattle.format.specs.Entry.{openEntry}
+use Rattle.format.specs.Utf8.{openUtf8}
 use Rattle.format.specs.Flat.{openFlat}
 use Rattle.format.specs.Macro.{openMacro}
 use Rattle.format.specs.Limits.{openLimits}
@@ -29,7 +30,7 @@ fourteen-cases = refl
 -- the same through bytes: the registry and the condition are encoded, read back and expanded, and the result is encoded
 pub fourteen-cases-through-bytes : map runBytes cases ≡ map expected cases
 unfolding
-    openEntry openFlat openMacro openLimits openBuild openTape openText openOutcome openSize openCheck openSubstitute
+    openEntry openUtf8 openFlat openMacro openLimits openBuild openTape openText openOutcome openSize openCheck openSubstitute
     openRegistry openExpand answer numberAlone reading longBuffers treeAnswer expandTapes expandAnswer definitions cases
     resultOf expected line runBytes
 fourteen-cases-through-bytes = refl

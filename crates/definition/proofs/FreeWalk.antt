@@ -18,6 +18,7 @@ use Rattle.definition.specs.Text.{eqText}
 use Rattle.definition.specs.Outcome.{Refusal, refusal, Outcome, Walk, pure, refuse, _>>=_, _>>_}
 use Rattle.definition.proofs.Values.{value-body}
 use Rattle.definition.proofs.Good.{Good, good-done, good-refused, step}
+use Rattle.definition.proofs.Lookup.{Found, found, lookup-in}
 use Rattle.definition.specs.Messages.{undeclaredParameter, budgetExceeded, notAnIdentifier, argumentCount}
 use Rattle.definition.specs.Check.{Verdict, _andThen_, contains, namesOf, checkParam, plainIdentInBody, callInBody, checkBinderSlot, checkBinders, checkWithinInBody, checkSigilRef, checkTemporalConditionBody, checkTemporalAggBody, checkTemporalTerm, checkTemporalTerms, checkTemporalFields, checkTemporalValueBody, checkBody, checkDef}
 use Rattle.definition.specs.Substitute.{charge, SubstMaps, _orElse_, onlyIf, lookup, argFor, chargePaste, pasteCondition, pasteTerm, pasteWithin, identifier, pasteSlot, substBinderSlot, substBinder, substBinders, substWithin, substSigilRef, appendFields, foldRefine, substTemporalCondition, substTemporalAgg, substTemporalTerm, substTemporalTerms, substTemporalFields, chargeBody, checkArity, checkLimits, mapsOf, substituteTemporalCondition, substituteTemporalValue, substituteBody, substitute}
@@ -325,22 +326,6 @@ IsSome : Option CallArg → Type 0
 IsSome none = ⊥
 IsSome (some a) = Unit {0}
 
-FreeIfSome : Option CallArg → Type 0
-FreeIfSome none = Unit {0}
-FreeIfSome (some a) = Free (flatArg a)
-
-lookup-free : (ps : List MacroParam) (args : CallArgs) (name : Text) → Free (flatArgs args) → FreeIfSome (lookup ps args name)
-unfolding lookup _orElse_ onlyIf FreeIfSome flatArgs
-lookup-free [] args name f = tt
-lookup-free (p ∷ ps) CallArgs.noArgs name f = tt
-lookup-free (p ∷ ps) (CallArgs.consArg a rest) name f =
-    go (lookup ps rest name) (lookup-free ps rest name (all-right (flatArg a) f)) (eqText (p .name) name)
-  where
-    go : (o : Option CallArg) → FreeIfSome o → (b : Bool) → FreeIfSome (o orElse onlyIf b a)
-    go (some c) g b = g
-    go none g true = all-left (flatArg a) (flatArgs rest) f
-    go none g false = tt
-
 lookup-some : (ps : List MacroParam) (args : CallArgs) (name : Text)
     → length ps ≡ lengthArgs args → contains (namesOf ps) name ≡ true → IsSome (lookup ps args name)
 unfolding lookup _orElse_ onlyIf IsSome contains namesOf lengthArgs
@@ -356,12 +341,12 @@ lookup-some (p ∷ ps) (CallArgs.consArg a rest) name e h =
     go none g false k = absurd (g k)
 
 bound : (ps : List MacroParam) (args : CallArgs) → length ps ≡ lengthArgs args → Free (flatArgs args) → Bound ps args
-unfolding IsSome FreeIfSome
-bound ps args e f name h = go (lookup ps args name) (lookup-some ps args name e h) (lookup-free ps args name f)
+unfolding IsSome
+bound ps args e f name h = go (lookup ps args name) (lookup-some ps args name e h) (lookup-in ps args name f)
   where
-    go : (o : Option CallArg) → IsSome o → FreeIfSome o → (a : CallArg) × (o ≡ some a) × Free (flatArg a)
+    go : (o : Option CallArg) → IsSome o → Found (λ (a : CallArg). Free (flatArg a)) o → (a : CallArg) × (o ≡ some a) × Free (flatArg a)
     go none s g = absurd s
-    go (some a) s g = (a, refl, g)
+    go (some a) s (found f) = (a, refl, f)
 
 -- ------------------------------------------------------------------ the whole substitution
 

@@ -1,12 +1,12 @@
 -- Every answer keeps its bounds: specs/Kept.antt, of each operation. What an accepted tape keeps to goes into the walks of
--- KeptSubstitute, KeptExpand and Verdicts.
+-- SaidSubstitute, SaidExpand and Verdicts.
 -- Assumes nothing.
-use Prim.Native.Nat.{ℕ, _-_, _≤_}
+use Prim.Native.Nat.{ℕ, _-_, _^_, _≤_, _<_}
 use native.Mathlib.Omega.{arith}
 use mathlib.Core.Path.{_≡_, refl, sym}
 use mathlib.Core.List.{List, [], _∷_}
 use mathlib.Core.Bool.{Bool, true, false, not, _&&_, false≢true}
-use lib.Dec.{T, leb, leb→le}
+use lib.Dec.{T, leb, leb→le, lit≤}
 use lib.ListN.{length, replicate, length-append, length-replicate}
 use Rattle.format.specs.Entry.{Entry, encode, textOf}
 use Rattle.format.specs.Ast.{Condition, Call, Tree, MacroParam, MacroDef}
@@ -25,10 +25,52 @@ use Rattle.definition.specs.Registry.{build}
 use Rattle.definition.specs.Answers.{Buffers, padded, answer, numberAlone, reading, longBuffers, treeAnswer, expandTapes, expandAnswer, substituteTapes, substituteAnswer, messageAlone, verdict, messageAnswer, checkAnswer, registryAnswer}
 use Rattle.definition.specs.Kept.{Bounded, CheckBounded, RegistryBounded, SubstituteBounded, ExpandBounded}
 use Rattle.definition.proofs.Good.{good-done, good-refused}
-use Rattle.definition.proofs.Lengths.{Short, Name, Declared, short-reserved, short-duplicate, short-undeclared, short-plain, short-macroInMacro}
-use Rattle.definition.proofs.Verdicts.{Given, passes, refuses, given-body, given-build}
-use Rattle.definition.proofs.KeptSubstitute.{KeptTree, Sized, no-message, def-name, def-body, kept-substitute}
-use Rattle.definition.proofs.KeptExpand.{SizedDef, kept-expand}
+use Rattle.definition.proofs.Lengths.{Short, Name, Declared, Number, short-reserved, short-duplicate, short-undeclared, short-plain, short-macroInMacro, short-unknown, short-cedarInCondition, short-cedarInValue, short-valueAsCondition, short-conditionAsValue, short-count, short-budget, short-strayCondition, short-strayWithin, short-straySlot, short-strayField, short-strayOperand, short-unbound, short-notACondition, short-binderAsCondition, short-notAnInterval, short-notATerm, short-notAnIdentifier, short-notAPredicate}
+use Rattle.definition.proofs.Verdicts.{Given, passes, refuses, Any, given-body, given-build}
+use Rattle.definition.proofs.Rules.{Rules, Known, RefusalMatches, Fits}
+use Rattle.definition.proofs.SaidSubstitute.{def-name, def-body, said-substitute}
+use Rattle.definition.proofs.SaidExpand.{said-expand}
+
+-- ------------------------------------------------------------------ the rules: names of at most 255 bytes, values below 2^64
+
+abbrev Sized : Entry → Type 0
+Sized e = Known Name Number e
+
+abbrev SizedDef : MacroDef → Type 0
+SizedDef d = All Sized (flatDef d)
+
+-- no message
+no-message : Short []
+no-message = lit≤ tt
+
+short-rules : (limit : ℕ) → limit < 2 ^ 32 → Rules Name Any Short Number (λ n. n ≤ limit) limit
+short-rules limit small =
+    record {
+      no-text = tt;
+      own-text = λ t k. tt;
+      new-name = λ t k start. tt;
+      charged = λ n h. h;
+      says-nothing = no-message;
+      says-30 = short-unknown;
+      says-31 = short-cedarInCondition;
+      says-31-value = short-cedarInValue;
+      says-32 = short-valueAsCondition;
+      says-33 = short-conditionAsValue;
+      says-34 = short-count;
+      says-35 = short-budget limit small;
+      says-36 = short-strayCondition;
+      says-37 = short-strayWithin;
+      says-38 = short-straySlot;
+      says-39 = short-strayField;
+      says-40 = short-strayOperand;
+      says-41 = short-unbound;
+      says-42 = short-notACondition;
+      says-43 = short-binderAsCondition;
+      says-44 = short-notAnInterval;
+      says-45 = short-notATerm;
+      says-46 = short-notAnIdentifier;
+      says-47 = short-notAPredicate;
+    }
 
 -- ------------------------------------------------------------------ what an input's tape keeps to
 
@@ -66,7 +108,7 @@ sized-definition bytes d t = sized (short-texts (flatDef d) (t .texts)) (t .rang
 -- ------------------------------------------------------------------ the verdicts
 
 abbrev ShortRefusal : Refusal → Type 0
-ShortRefusal r = Short (r .message)
+ShortRefusal r = RefusalMatches Short r
 
 declared-params : (ps : List MacroParam) → All ShortText (flatParams ps) → All Declared (namesOf ps)
 unfolding flatParams namesOf longestText isCode
@@ -86,11 +128,11 @@ short-check bytes def t =
     let names = declared-params (def .params) (all-left (flatParams (def .params)) _ (all-tail (all-tail (all-tail texts)))) in
     given-body Name (namesOf (def .params))
     (record {
-      undeclared = λ n k s. short-undeclared n k (namesOf (def .params)) names (omega (arith, few, length-names (def .params)));
-      plain = λ n k s. short-plain n k;
-      called = λ s. short-macroInMacro;
+      undeclared = λ n k s. (short-undeclared n k (namesOf (def .params)) names (omega (arith, few, length-names (def .params))), tt);
+      plain = λ n k s. (short-plain n k, tt);
+      called = λ s. (short-macroInMacro, tt);
     })
-    (def .body) (def-body def (sized-definition bytes def t))
+    (def .body) (all-map (λ e k. k .0) (def-body def (sized-definition bytes def t)))
 
 sized-defs : (ds : List MacroDef) → All Sized (flatDefs ds) → All SizedDef ds
 unfolding flatDefs
@@ -103,8 +145,8 @@ sized-registry bytes ds t = sized-defs ds (all-tail (sized (short-texts _ (t .te
 
 short-build : (ds : List MacroDef) → All SizedDef ds → Given ShortRefusal (build ds)
 short-build ds h =
-    given-build Name (record { reserved = λ n k s. short-reserved n k; duplicate = λ n k s p. short-duplicate n k p }) ds
-    (all-map (λ d s. def-name d s) h)
+    given-build Name (record { reserved = λ n k s. (short-reserved n k, tt); duplicate = λ n k s p. (short-duplicate n k p, tt) }) ds
+    (all-map (λ d s. def-name {P = Sized} d s .0) h)
 
 -- ------------------------------------------------------------------ the answers
 
@@ -181,7 +223,7 @@ bounded-message m o f = go (leb 2048 m) (leb→le 2048 m)
 bounded-verdict : (m : ℕ) {v : Verdict} → 2048 ≤ m → Given ShortRefusal v → Bounded (messageAlone m) 0 (answer nothing (messageAlone m) (verdict v))
 unfolding verdict
 bounded-verdict m long passes = bounded-done nothing (messageAlone m) 0 tt 0 (omega arith) (omega arith)
-bounded-verdict m long (refuses {r = r} s) = bounded-refused nothing (messageAlone m) 0 r 0 (omega arith) s (omega arith)
+bounded-verdict m long (refuses {r = r} s) = bounded-refused nothing (messageAlone m) 0 r 0 (omega arith) (s .0) (omega (arith, s .0))
 
 pub check-bounded : CheckBounded
 unfolding checkAnswer
@@ -216,11 +258,11 @@ bounded-tree b limit o f = go (longBuffers b) (λ h. h)
     go false h = bounded-number-alone treeTape b limit 1
 
 bounded-kept : (b : Buffers) (limit : ℕ) {o : Outcome Tree} → 12296 ≤ b .resultLength → 2048 ≤ b .messageLength
-    → KeptTree (λ t. t) limit o → Bounded b limit (answer treeTape b o)
+    → Fits Short Any (λ n. n ≤ limit) (λ t. t) o → Bounded b limit (answer treeTape b o)
 bounded-kept b limit large long (good-done {a = t} {n = n} k) =
-    bounded-done treeTape b limit t n (k .0) (omega (arith, tape-length t (k .1)))
+    bounded-done treeTape b limit t n (k .0) (omega (arith, tape-length t (k .2)))
 bounded-kept b limit large long (good-refused {r = r} {n = n} k) =
-    bounded-refused treeTape b limit r n (k .1) (k .0) (omega (arith, k .0))
+    bounded-refused treeTape b limit r n (k .1) (k .0 .0) (omega (arith, k .0 .0))
 
 pub substitute-bounded : SubstituteBounded
 unfolding substituteAnswer substituteTapes
@@ -230,7 +272,8 @@ substitute-bounded b limit small definition input p q =
     bounded-reading treeTape b limit (read callRoot input) _ λ call k.
     let d = accepted-on-tape definitionRoot (lawful-definition .spells) definition p def h in
     let c = accepted-on-tape callRoot (lawful-call .spells) input q call k in
-    bounded-kept b limit large long (kept-substitute limit small def (sized-definition definition def d) call (sized-call input call c))
+    bounded-kept b limit large long
+    (said-substitute (short-rules limit small) def (sized-definition definition def d) call (sized-call input call c))
 
 pub expand-bounded : ExpandBounded
 unfolding expandAnswer expandTapes
@@ -240,4 +283,5 @@ expand-bounded b limit small registry input p q =
     bounded-reading treeTape b limit (read conditionRoot input) _ λ condition k.
     let ds = sized-registry registry defs (accepted-on-tape registryRoot (lawful-registry .spells) registry p defs h) in
     let c = accepted-on-tape conditionRoot (lawful-condition .spells) input q condition k in
-    bounded-kept b limit large long (kept-expand limit small defs ds (short-build defs ds) condition (sized-condition input condition c))
+    bounded-kept b limit large long
+    (said-expand defs limit (short-rules limit small) ds (short-build defs ds) condition (sized-condition input condition c))

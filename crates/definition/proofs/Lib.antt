@@ -3,6 +3,7 @@ pub mod Cases
 pub mod Demand3
 pub mod Residue
 pub mod Kept
+pub mod Whole
 pub mod Names
 pub mod Size
 pub mod Decimal
@@ -12,5 +13,7 @@ mod Verdicts
 mod FreeWalk
 mod Lookup
 mod Lengths
-mod KeptSubstitute
-mod KeptExpand
+pub mod WholeMessages
+mod Rules
+mod SaidSubstitute
+mod SaidExpand

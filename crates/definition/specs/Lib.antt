@@ -11,4 +11,5 @@ pub mod Answers
 pub mod Demand3
 pub mod Residue
 pub mod Kept
+pub mod Whole
 pub mod Cases

@@ -11,9 +11,10 @@ use lib.Dec.{T, leb, eqb, leb→le, eqb→eq}
 use lib.ListN.{length, take, drop, take-append-drop, length-take, length-drop}
 use lib.Seq.{drop-drop}
 use Rattle.format.specs.Entry.{Text, Entry, le, codesOf, valuesOf, textOf, encode}
+use Rattle.format.specs.Utf8.{wellTexts}
 use Rattle.format.specs.Limits.{fitsSizes}
 use Rattle.format.specs.Build.{Stack, build}
-use Rattle.format.specs.Tape.{Reading, fromLe, isText, textWidth, cons, takeEntry, split, printable, readText, readSections, readSizes, readTape, Root, readLimits, readRoot, readStack, readTree, read, Bytes}
+use Rattle.format.specs.Tape.{Reading, fromLe, isText, textWidth, cons, takeEntry, split, readTexts, readSections, readSizes, readTape, Root, readLimits, readRoot, readStack, readTree, read, Bytes}
 use Rattle.format.proofs.All.{All, all-nil, all-cons}
 use Rattle.format.proofs.Spells.{flatStack, Spells, s-at-root, build-spells}
 use Rattle.format.proofs.Tests.{and-left, and-right}
@@ -27,7 +28,7 @@ Values64 es = All (λ (e : Entry). e .value < 256 ^ 8) es
 pub record InRange (es : List Entry) : Type 0 where
   pub values : Values64 es
   pub sizes : T (fitsSizes (length es) (length (textOf es)))
-  pub text : T (printable (textOf es))
+  pub texts : T (wellTexts es)
 
 -- the bytes are a tape of this tree, within the limits of the root
 pub record OnTape {A : Type 0} (root : Root A) (bytes : List ℕ) (a : A) : Type 0 where
@@ -121,13 +122,13 @@ length-codes (e ∷ es) = ap suc (length-codes es)
 -- the sections of N entries and T text bytes
 record Sections (n t : ℕ) (rest : List ℕ) (es : List Entry) : Type 0 where
   entries : length es ≡ n
-  texts : length (textOf es) ≡ t
+  size : length (textOf es) ≡ t
   bytes : codesOf es ++ (valuesOf es ++ textOf es) ≡ rest
   values : Values64 es
-  text : T (printable (textOf es))
+  texts : T (wellTexts es)
 
 reads-sections : (n t : ℕ) (rest : List ℕ) → Bytes rest → Accepts (Sections n t rest) (readSections n t rest)
-unfolding readSections readText
+unfolding readSections readTexts
 reads-sections n t rest q = go (eqb (length rest) (9 * n + t)) (eqb→eq (length rest) (9 * n + t))
   where
     codes : List ℕ
@@ -145,31 +146,35 @@ reads-sections n t rest q = go (eqb (length rest) (9 * n + t)) (eqb→eq (length
         let e : drop (9 * n) rest ≡ drop (8 * n) (drop n rest) = rw k (sym (drop-drop (8 * n) n rest)) in
         rw (e, take-append-drop (8 * n) (drop n rest)) (take-append-drop n rest)
 
-    made : length rest ≡ 9 * n + t → T (printable text) → (es : List Entry)
+    made : length rest ≡ 9 * n + t → (es : List Entry) → T (wellTexts es)
         → codesOf es ≡ codes → valuesOf es ≡ values → textOf es ≡ text → Values64 es → Sections n t rest es
-    made h ok es p r u k =
+    made h es ok p r u k =
         record {
           entries = sym (length-codes es) ∙ (ap length p ∙ (length-take n rest ∙ omega arith));
-          texts = ap length u ∙ (length-drop (9 * n) rest ∙ omega arith);
+          size = ap length u ∙ (length-drop (9 * n) rest ∙ omega arith);
           bytes = rw (p, r, u) whole;
           values = k;
-          text = rw u ok;
+          texts = ok;
         }
 
-    chosen : length rest ≡ 9 * n + t → (b : Bool) → (T b → T (printable text)) → (o : Option (List Entry))
-        → SplitInto codes values text o → Accepts (Sections n t rest) (readText b o)
-    chosen h b ok none not-split = was-malformed
-    chosen h false ok (some es) s = was-malformed
-    chosen h true ok (some es) (split-into p r u k) = was-accepted (made h (ok tt) es p r u k)
+    chosen : length rest ≡ 9 * n + t → (o : Option (List Entry)) → SplitInto codes values text o
+        → Accepts (Sections n t rest) (readTexts o)
+    chosen h none not-split = was-malformed
+    chosen h (some es) (split-into p r u k) = whole-texts (wellTexts es) (λ ok. ok)
+      where
+        whole-texts : (b : Bool) → (T b → T (wellTexts es))
+            → Accepts (Sections n t rest) (elim b [ true ↦ Reading.accepted es | false ↦ Reading.malformed ])
+        whole-texts true ok = was-accepted (made h es (ok tt) p r u k)
+        whole-texts false ok = was-malformed
 
     go : (b : Bool) → (T b → length rest ≡ 9 * n + t)
         → Accepts (Sections n t rest) (elim b [
-          | true ↦ readText (printable text) (split codes values text)
+          | true ↦ readTexts (split codes values text)
           | false ↦ Reading.malformed
         ])
     go false h = was-malformed
     go true h =
-        chosen (h tt) (printable text) (λ p. p) (split codes values text)
+        chosen (h tt) (split codes values text)
         (splits codes values text
         (omega (arith, h tt, length-take (8 * n) (drop n rest), length-drop n rest, length-take n rest))
         (bytes-take (8 * n) (drop n rest) (bytes-drop n rest q)))
@@ -200,7 +205,7 @@ reads-tape bs q = go (leb 8 (length bs)) (leb→le 8 (length bs))
           encoded =
               rw (
                 s .entries,
-                s .texts,
+                s .size,
                 s .bytes,
                 le-front 4 bs (omega arith) q .0,
                 le-front 4 (drop 4 bs) (omega (arith, length-drop 4 bs)) (bytes-drop 4 bs q) .0,
@@ -208,7 +213,7 @@ reads-tape bs q = go (leb 8 (length bs)) (leb→le 8 (length bs))
                 take-append-drop 4 (drop 4 bs),
               )
               (take-append-drop 4 bs);
-          range = record { values = s .values; sizes = rw (s .entries, s .texts) k; text = s .text };
+          range = record { values = s .values; sizes = rw (s .entries, s .size) k; texts = s .texts };
         }
 
     sized : 8 ≤ length bs → (b : Bool) → (T b → T (fitsSizes n t))

@@ -15,8 +15,9 @@ use Rattle.format.specs.Entry.{Text, Entry, le, codesOf, valuesOf, textO
 use Rattle.format.specs.Ast.{TimeUnit, Interval, WithinSpec, BinderSlot, BinderType, TypedBinder, Sigil, Condition, Term, AggExpr, Call, CallArg, CallArgs, NamedArgs, Terms, Tree, MacroParam, MacroBody, MacroDef}
 use Rattle.format.specs.Flat.{flatTexts, flatUnit, flatInterval, flatWithin, flatSlot, flatType, flatBinder, flatBinders, flatSigil, flatCondition, flatTerm, flatAgg, flatCall, flatArg, flatArgs, flatFields, flatTerms, flatTree, flatParams, flatBody, flatDef, flatDefs, flatRegistry}
 use Rattle.format.specs.Macro.{isCode}
+use Rattle.format.specs.Utf8.{wellTexts}
 use Rattle.format.specs.Limits.{fitsSizes}
-use Rattle.format.specs.Tape.{Reading, fromLe, isText, textWidth, cons, takeEntry, split, printable, readText, readSections, readSizes, readTape, Root, readLimits, readRoot, readStack, readTree, read}
+use Rattle.format.specs.Tape.{Reading, fromLe, isText, textWidth, cons, takeEntry, split, readTexts, readSections, readSizes, readTape, Root, readLimits, readRoot, readStack, readTree, read}
 use Rattle.format.proofs.All.{All, all-nil, all-cons, all-head, all-tail, all-append}
 use Rattle.format.proofs.Tests.{and-left, and-right, is-true}
 use Rattle.format.proofs.Builds.{Rooted}
@@ -86,7 +87,7 @@ module _ (es : List Entry) (w : WellTexted es) (r : InRange es) where
   rest = codesOf es ++ (valuesOf es ++ textOf es)
 
   sections : readSections (length es) (length (textOf es)) rest ≡ Reading.accepted es
-  unfolding readSections readText rest
+  unfolding readSections readTexts rest
   sections =
       let cs : List ℕ = codesOf es in
       let vs : List ℕ = valuesOf es in
@@ -104,9 +105,8 @@ module _ (es : List Entry) (w : WellTexted es) (r : InRange es) where
         drop-at cs (vs ++ t) n c,
         take-at vs t (8 * n) v,
         split-back es w (r .values),
-        is-true {b = printable t} (r .text),
       )
-      refl)
+      (rw (is-true {b = wellTexts es} (r .texts), readTexts)))
 
   sizes : readSizes (length es) (length (textOf es)) rest ≡ Reading.accepted es
   unfolding readSizes

@@ -1,5 +1,8 @@
 pub mod All
 pub mod Tests
+pub mod Utf8
+pub mod Grammar
+pub mod Utf8Cases
 pub mod Macro
 pub mod Spells
 pub mod Builds

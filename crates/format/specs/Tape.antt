@@ -8,6 +8,7 @@ use mathlib.Core.Option.{Option, none, some}
 use lib.Dec.{leb, eqb}
 use lib.ListN.{length, take, drop}
 use Rattle.format.specs.Entry.{Text, Entry}
+use Rattle.format.specs.Utf8.{wellTexts}
 use Rattle.format.specs.Ast.{Condition, Call, Tree, MacroDef}
 use Rattle.format.specs.Flat.{flatCondition, flatCall, flatTree, flatDef, flatRegistry}
 use Rattle.format.specs.Macro.{isCode}
@@ -53,21 +54,16 @@ split (c ∷ cs) vs t =
     let v = fromLe (take 8 vs) in
     takeEntry c v (textWidth (isText c) v) t (λ u. split cs (drop 8 vs) u)
 
--- "Text bytes are 20 to 7E hexadecimal."
-unfoldable pub printable : Text → Bool
-printable [] = true
-printable (b ∷ t) = (leb 32 b && leb b 126) && printable t
-
-unfoldable pub readText : Bool → Option (List Entry) → Reading (List Entry)
-readText ok none = Reading.malformed
-readText false (some es) = Reading.malformed
-readText true (some es) = Reading.accepted es
+-- "A tape with ill-formed text is still 2."
+unfoldable pub readTexts : Option (List Entry) → Reading (List Entry)
+readTexts none = Reading.malformed
+readTexts (some es) = elim (wellTexts es) [ true ↦ Reading.accepted es | false ↦ Reading.malformed ]
 
 -- "The slice is exactly 8 + 9N + T bytes."
 unfoldable pub readSections : ℕ → ℕ → List ℕ → Reading (List Entry)
 readSections n t rest =
     elim (eqb (length rest) (9 * n + t)) [
-      | true ↦ readText (printable (drop (9 * n) rest)) (split (take n rest) (take (8 * n) (drop n rest)) (drop (9 * n) rest))
+      | true ↦ readTexts (split (take n rest) (take (8 * n) (drop n rest)) (drop (9 * n) rest))
       | false ↦ Reading.malformed
     ]
 
@@ -176,7 +172,7 @@ Bytes (b ∷ bs) = (b < 256) × Bytes bs
 -- Whoever unfolds this unfolds every definition of this file.
 unfoldable pub openTape : Unit {0}
 unfolding
-    fromLe isText textWidth cons takeEntry split printable readText readSections readSizes readTape smallBody
+    fromLe isText textWidth cons takeEntry split readTexts readSections readSizes readTape smallBody
     smallBodies conditionRoot definitionRoot callRoot registryRoot treeRoot longestText shortTexts readLimits readRoot
     readStack readTree read
 openTape = tt

@@ -1,4 +1,4 @@
-mod Table
+pub mod Table
 pub mod Cells
 pub mod Marks
 pub mod Leaves

@@ -8,25 +8,28 @@ use mathlib.Core.List.{List, [], _∷_, _++_, append-nil}
 use mathlib.Core.Option.{Option, none, some}
 use native.Mathlib.Nat.{add-zero, zero-add, sub-zero}
 use native.Mathlib.Omega.{arith}
-use borrow.Author.Tests.{eq-eqb, eqb-true, eqb-false}
+use borrow.Author.Tests.{eq-eqb, eqb-true, eqb-false, not-true}
 use lib.Dec.{T, leb, eqb, leb→le, le→leb, eqb→eq}
 use lib.ListN.{length, take, drop, length-drop, length-append}
 use lib.Seq.{drop-drop}
-use Rattle.format.specs.Entry.{Entry, textOf}
+use Rattle.format.specs.Entry.{Text, Entry, textOf}
 use Rattle.format.specs.Limits.{fitsSizes}
 use Rattle.format.specs.Build.{Stack, build}
-use Rattle.format.specs.Tape.{Reading, split, printable, readText, readSections, readSizes, readTape, Root, readLimits, readRoot, readStack, readTree, read, Bytes}
+use Rattle.format.specs.Tape.{Reading, split, readTexts, readSections, readSizes, readTape, Root, readLimits, readRoot, readStack, readTree, read, Bytes}
+use Rattle.format.specs.Utf8.{wellFormed, wellTexts}
 use Rattle.format.proofs.Accepted.{Values64}
+use Rattle.format.proofs.All.{all-map}
 use Rattle.format.proofs.Builds.{Rooted}
 use Rattle.format.proofs.Encodes.{WellTexted}
 use Rattle.format.proofs.Spells.{Spells, s-at-root, build-spells}
+use Rattle.format.proofs.Utf8.{all-whole, whole-all}
 use Rattle.tape.specs.Accept.{judged, acceptIn, afterOpen, acceptBy}
 use Rattle.tape.specs.Header.{entriesOf, sizeOf}
 use Rattle.tape.specs.Layouts.{tapeLayout, entriesAt}
 use Rattle.tape.specs.Pick.{pick}
 use Rattle.grammar.specs.Waits.{wait, isLimited}
 use Rattle.grammar.proofs.Marks.{Table}
-use Rattle.tape.specs.Scan.{scanOf, starts, scanAt}
+use Rattle.tape.specs.Scan.{scanOf, starts, scanAt, textPasses}
 use Rattle.tape.specs.declared.header.Opened.{Opened}
 use Rattle.tape.specs.declared.header.Opened.the-variants.{Tape, Refused}
 use Rattle.tape.specs.declared.layout.Layout.{Layout}
@@ -34,8 +37,8 @@ use Rattle.tape.specs.declared.layout.Place.{Place}
 use Rattle.tape.specs.declared.scan.Scanned.{Scanned}
 use Rattle.tape.specs.declared.scan.Scanned.the-variants.{Ends, Malformed}
 use Rattle.tape.proofs.Holding.{starting}
-use Rattle.tape.proofs.Found.{Language, found, ends-text}
-use Rattle.tape.proofs.Passing.{PassesBy, Keeps, shortIn, reported}
+use Rattle.tape.proofs.Found.{Language, found, took-all}
+use Rattle.tape.proofs.Passing.{PassesBy, Keeps, TextsPass, shortIn, reported}
 use Rattle.tape.proofs.Places.{widthsOf, widths-texted, entries-texted, split-entries, values-64, eq→eqb}
 use Rattle.format.proofs.Tests.{and-left, and-right, and-both, is-true, from-true, same-test}
 use Rattle.tape.proofs.Turns.{length-entries}
@@ -66,14 +69,14 @@ data Parsed {A : Type 0} (root : Root A) (es : List Entry) : Reading A → Type 
   no-tree : ((a : A) → root .flat a ≡ es → ⊥) → Parsed root es Reading.malformed
   a-tree : (a : A) → root .flat a ≡ es → Parsed root es (readLimits (root .texts es && root .small a) a)
 
--- What an accepted slice holds: the tree's entries, their values 64 bits each, its text printable, its sizes and its tree within the limits.
+-- What an accepted slice holds: the tree's entries, their values 64 bits each, its texts well-formed, its sizes and its tree within the limits.
 pub record Holds {A : Type 0} (root : Root A) (s : List ℕ) (a : A) : Type 0 where
   pub values-are : Bytes s → Values64 (root .flat a)
   pub entries-count : length (root .flat a) ≡ entriesOf s
   pub text-count : length (textOf (root .flat a)) ≡ sizeOf s
   pub sized : length s ≡ 8 + 9 * entriesOf s + sizeOf s
   pub fitting : T (fitsSizes (entriesOf s) (sizeOf s))
-  pub printing : T (printable (drop (9 * entriesOf s) (drop 8 s)))
+  pub well : T (wellTexts (root .flat a))
   pub keeping : T (root .texts (root .flat a) && root .small a)
 
 -- the answer to a reading
@@ -102,6 +105,17 @@ module _ (g : List ℕ) (longest : ℕ) (limited : isLimited longest ≡ true) (
       and-both (shortIn g longest es) _ (rw limited at (k .texts-keep))
       (and-both (leb nodes 64) _ (le→leb nodes 64 (omega (arith, k .nodes-keep)))
       (and-both (leb calls 4) _ (le→leb calls 4 (omega (arith, k .calls-keep))) (rw limited at (k .listed-keep))))
+
+-- a scan with figures takes the texts that are well-formed
+module _ (longest : ℕ) (limited : isLimited longest ≡ true) where
+  passes-well : (t : Text) → textPasses longest t ≡ wellFormed t
+  passes-well t = rw (not-true (eqb longest 0) limited)
+
+  to-texts : (es : List Entry) → T (wellTexts es) → TextsPass longest es
+  to-texts es h = all-map (λ e w. rw (passes-well (e .text)) w) (all-whole es h)
+
+  from-texts : {es : List Entry} → TextsPass longest es → T (wellTexts es)
+  from-texts h = whole-all (all-map (λ e w. rw (passes-well (e .text)) at w) h)
 
 -- a scan that did not use up entries and text is a refusal
 judged-else : (l : Layout) (x : Scanned) → ((p : Place) (o : Bool) → x ≡ Ends p o → p .at ≡ l .entries → p .text ≡ l .size → ⊥)
@@ -174,12 +188,13 @@ module _ {t : Table} {trees : Language t} {longest : ℕ} {A : Type 0} {root : R
     scanned = scanOf (t .words) longest (l .size) es (wait sort 0 0 ∷ []) 0 0 false
 
     -- the entries of a tree are passed over
-    judged-tree : (a : A) → root .flat a ≡ es → judged l scanned ≡ pick (not (root .texts es && root .small a)) (Refused 3) (Tape l)
-    judged-tree a e =
+    judged-tree : T (wellTexts es) → (a : A) → root .flat a ≡ es → judged l scanned ≡ pick (not (root .texts es && root .small a)) (Refused 3) (Tape l)
+    judged-tree well a e =
         let p = r .passes a in
         let n : length (textOf (root .flat a)) ≡ l .size = ap (λ (x : List Entry). length (textOf x)) e ∙ sym (widths-texted w) ∙ sym filled in
         let k : length (root .flat a) ≡ l .entries = ap length e ∙ sym sized in
-        let q = p .run longest (l .size) 0 0 [] [] 0 0 false (omega arith) (omega arith) (omega arith) in
+        let q = p .run longest (l .size) 0 0 [] [] 0 0 false (omega arith) (omega arith) (omega arith)
+        (rw e (to-texts longest (r .is-limited) es well)) in
         let z : scanned ≡ Ends (record { at = l .entries; text = l .size }) (not (root .texts es && root .small a)) =
         ap (λ (x : List Entry). scanOf (t .words) longest (l .size) x (wait sort 0 0 ∷ []) 0 0 false) (sym e ∙ sym (append-nil (root .flat a)))
         ∙ q ∙ rw (zero-add, zero-add, k, n, over-is a, e) in
@@ -229,11 +244,11 @@ module _ {t : Table} {trees : Language t} {longest : ℕ} {A : Type 0} {root : R
           rw (drop-drop (entriesOf s) 8 s, drop-drop (9 * entriesOf s) 8 s) (rw (add-zero, add-zero, k) at q)
 
       -- the scan of a tape's entries answers what is read from its sections
-      scan-reads : T (fitsSizes (entriesOf s) (sizeOf s)) → T (printable (drop (9 * entriesOf s) (drop 8 s)))
+      scan-reads : T (fitsSizes (entriesOf s) (sizeOf s))
           → Answers root s (judged l (scanOf (t .words) longest (sizeOf s) es (wait sort 0 0 ∷ []) 0 0 false))
-          (readTree root (readText true (pick (eqb (widthsOf es) (sizeOf s)) (some es) none)))
-      unfolding es readText readTree readLimits
-      scan-reads fit text = go (eqb (widthsOf es) (sizeOf s)) (eqb-true (widthsOf es) (sizeOf s)) (eqb-false (widthsOf es) (sizeOf s))
+          (readTree root (readTexts (pick (eqb (widthsOf es) (sizeOf s)) (some es) none)))
+      unfolding es readTexts readTree readLimits
+      scan-reads fit = go (eqb (widthsOf es) (sizeOf s)) (eqb-true (widthsOf es) (sizeOf s)) (eqb-false (widthsOf es) (sizeOf s))
         where
           scanned : Scanned
           scanned = scanOf (t .words) longest (sizeOf s) es (wait sort 0 0 ∷ []) 0 0 false
@@ -244,10 +259,10 @@ module _ {t : Table} {trees : Language t} {longest : ℕ} {A : Type 0} {root : R
           texted : widthsOf es ≡ sizeOf s → WellTexted es
           texted e = entries-texted t s l (entriesOf s) 0 0 (omega arith)
 
-          limited : widthsOf es ≡ sizeOf s → (a : A) → root .flat a ≡ es → (b : Bool) → (root .texts es && root .small a) ≡ b
+          limited : widthsOf es ≡ sizeOf s → T (wellTexts es) → (a : A) → root .flat a ≡ es → (b : Bool) → (root .texts es && root .small a) ≡ b
               → Answers root s (pick (not b) (Refused 3) (Tape l)) (readLimits b a)
-          limited e a x false q = answers-3
-          limited e a x true q =
+          limited e well a x false q = answers-3
+          limited e well a x true q =
               let n : length (root .flat a) ≡ entriesOf s = ap length x ∙ k in
               let m : length (textOf (root .flat a)) ≡ sizeOf s = ap (λ (fs : List Entry). length (textOf fs)) x ∙ sym (widths-texted (texted e)) ∙ e in
               answers-tape {a = a} {l = l}
@@ -257,42 +272,38 @@ module _ {t : Table} {trees : Language t} {longest : ℕ} {A : Type 0} {root : R
                 text-count = m;
                 sized = sized;
                 fitting = fit;
-                printing = text;
+                well = rw x well;
                 keeping = rw x (from-true q);
               })
               (rw (n, m))
 
-          told : widthsOf es ≡ sizeOf s → (o : Reading A) → Parsed root es o → Answers root s (judged l scanned) o
-          told e Reading.malformed (no-tree x) = rw (judged-no-tree s l es (sym k) (sym e) (texted e) x) answers-2
-          told e o (a-tree a x) = rw (judged-tree s l es (sym k) (sym e) (texted e) a x) (limited e a x (root .texts es && root .small a) refl)
+          told : widthsOf es ≡ sizeOf s → T (wellTexts es) → (o : Reading A) → Parsed root es o → Answers root s (judged l scanned) o
+          told e well Reading.malformed (no-tree x) = rw (judged-no-tree s l es (sym k) (sym e) (texted e) x) answers-2
+          told e well o (a-tree a x) =
+              rw (judged-tree s l es (sym k) (sym e) (texted e) well a x) (limited e well a x (root .texts es && root .small a) refl)
 
-          go : (b : Bool) → (b ≡ true → widthsOf es ≡ sizeOf s) → (b ≡ false → widthsOf es ≡ sizeOf s → ⊥)
-              → Answers root s (judged l scanned) (readTree root (readText true (pick b (some es) none)))
-          go true h g = told (h refl) (readStack root es (build es)) (parsed es)
-          go false h g =
-              rw (judged-else l scanned (λ p o q e₁ e₂.
-              g refl (omega (arith, ends-text t longest (sizeOf s) es (wait sort 0 0 ∷ []) 0 0 false p o q (omega (arith, k))))))
+          -- a scan that ends behind them all took each text
+          welled : widthsOf es ≡ sizeOf s → (b : Bool) → wellTexts es ≡ b
+              → Answers root s (judged l scanned) (readTree root (elim b [ true ↦ Reading.accepted es | false ↦ Reading.malformed ]))
+          welled e true q = told e (from-true q) (readStack root es (build es)) (parsed es)
+          welled e false q =
+              rw (judged-else l scanned (λ p o h e₁ e₂.
+              let all = took-all t longest (sizeOf s) es (wait sort 0 0 ∷ []) 0 0 false p o h (omega (arith, k)) in
+              rw q at (from-texts longest (r .is-limited) (all .texts-pass))))
               answers-2
 
-      -- text bytes, and then the scan
-      sections : Option (List Entry)
-      sections = split (take (entriesOf s) (drop 8 s)) (take (8 * entriesOf s) (drop (entriesOf s) (drop 8 s))) (drop (9 * entriesOf s) (drop 8 s))
-
-      printed : T (fitsSizes (entriesOf s) (sizeOf s)) → (b : Bool) → (T b → T (printable (drop (9 * entriesOf s) (drop 8 s))))
-          → Answers root s (pick b (judged l (scanAt (t .words) s l (record { at = 0; text = 0 }) sort longest)) (Refused 2)) (readTree root (readText b sections))
-      unfolding readText readTree sections
-      printed fit true text = rw (scan-is, sections-are) (scan-reads fit (text tt))
-      printed fit false text = refused sections
-        where
-          refused : (o : Option (List Entry)) → Answers root s (Refused 2) (readTree root (readText false o))
-          refused none = answers-2
-          refused (some fs) = answers-2
+          go : (b : Bool) → (b ≡ true → widthsOf es ≡ sizeOf s) → (b ≡ false → widthsOf es ≡ sizeOf s → ⊥)
+              → Answers root s (judged l scanned) (readTree root (readTexts (pick b (some es) none)))
+          go true h g = welled (h refl) (wellTexts es) refl
+          go false h g =
+              rw (judged-else l scanned (λ p o q e₁ e₂.
+              g refl (omega (arith, took-all t longest (sizeOf s) es (wait sort 0 0 ∷ []) 0 0 false p o q (omega (arith, k)) .text-ends))))
+              answers-2
 
       pub sections-answer : T (fitsSizes (entriesOf s) (sizeOf s))
-          → Answers root s (acceptIn (t .words) longest s sort l) (readTree root (readText (printable (drop (9 * entriesOf s) (drop 8 s)))
+          → Answers root s (acceptIn (t .words) longest s sort l) (readTree root (readTexts
           (split (take (entriesOf s) (drop 8 s)) (take (8 * entriesOf s) (drop (entriesOf s) (drop 8 s))) (drop (9 * entriesOf s) (drop 8 s)))))
-      unfolding sections
-      sections-answer fit = rw (← (drop-drop (9 * entriesOf s) 8 s)) (printed fit (printable (drop (9 * entriesOf s) (drop 8 s))) (λ u. u))
+      sections-answer fit = rw (scan-is, sections-are) (scan-reads fit)
 
   -- Acceptance answers what is read, for every list of bytes.
   pub answers : (s : List ℕ) → Answers root s (acceptBy (t .words) longest s sort) (read root s)
@@ -308,7 +319,7 @@ module _ {t : Table} {trees : Language t} {longest : ℕ} {A : Type 0} {root : R
       exact : T (fitsSizes n m) → 8 ≤ length s → (b : Bool) → (T b → length (drop 8 s) ≡ 9 * n + m)
           → Answers root s (afterOpen (t .words) longest s sort (pick b (Tape (tapeLayout n m)) (Refused 2)))
           (readTree root (elim b [
-            | true ↦ readText (printable (drop (9 * n) (drop 8 s))) (split (take n (drop 8 s)) (take (8 * n) (drop n (drop 8 s))) (drop (9 * n) (drop 8 s)))
+            | true ↦ readTexts (split (take n (drop 8 s)) (take (8 * n) (drop n (drop 8 s))) (drop (9 * n) (drop 8 s)))
             | false ↦ Reading.malformed
           ]))
       exact fit h false e = answers-2

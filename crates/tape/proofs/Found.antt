@@ -2,14 +2,14 @@
 -- Assumes nothing.
 use Prim.Native.Nat.{ℕ, _+_, _-_}
 use mathlib.Core.Path.{_≡_, refl, ap, sym, subst, _∙_}
-use mathlib.Core.Bool.{Bool, true, false, _||_}
+use mathlib.Core.Bool.{Bool, true, false, _&&_, _||_}
 use mathlib.Core.List.{List, [], _∷_, _++_, append-assoc}
 use native.Mathlib.Nat.{add-zero}
 use native.Mathlib.Omega.{arith}
 use lib.ListN.{length}
 use Rattle.format.specs.Entry.{Entry}
 use Rattle.format.specs.Tape.{isText, textWidth}
-use Rattle.format.proofs.All.{all-cons}
+use Rattle.format.proofs.All.{all-nil, all-cons}
 use Rattle.format.proofs.Encodes.{WellTexted}
 use Rattle.format.proofs.Tests.{and-left, and-right, and-both, from-true, is-true}
 use Rattle.grammar.specs.Words.{inSort, valuesOf, sortAt, rowAt}
@@ -17,11 +17,11 @@ use Rattle.grammar.specs.Waits.{Wait, waits, headOf, valued, accepts, deeper, e
 use Rattle.grammar.specs.declared.entry.Head.{Head}
 use Rattle.grammar.proofs.Marks.{Table}
 use Rattle.tape.specs.Pick.{pick}
-use Rattle.tape.specs.Scan.{scanOf}
+use Rattle.tape.specs.Scan.{scanOf, textPasses}
 use Rattle.tape.specs.declared.layout.Place.{Place}
 use Rattle.tape.specs.declared.scan.Scanned.{Scanned}
 use Rattle.tape.specs.declared.scan.Scanned.the-variants.{Ends, Malformed}
-use Rattle.tape.proofs.Passing.{allowed, sortsBelow}
+use Rattle.tape.proofs.Passing.{TextsPass, allowed, sortsBelow}
 use Rattle.tape.proofs.Places.{widthsOf}
 
 -- a tree for each sort
@@ -96,11 +96,14 @@ module _ {t : Table} (trees : Language t) where
     found (e ∷ es) [] at text over p o w h =
         record { trees-are = tt; rest = e ∷ es; split = refl; ends = ap (λ (q : Place). q .at) (same-place h) ∙ sym (add-zero at) }
     found (e ∷ es) (c ∷ st) at text over p o (all-cons wide w) h =
-        go (accepts (length es) (size - text) head) refl h
+        go lets-in refl h
         (found es (below c head ++ st) (at + 1) (text + head .text) (over || exceeds longest c head) p o w)
       where
         head : Head
         head = headOf (t .words) (c .sort) (e .code) (e .value)
+
+        lets-in : Bool
+        lets-in = accepts (length es) (size - text) head && textPasses longest (e .text)
 
         ss : List ℕ
         ss = sortsBelow (t .words) (c .sort) e
@@ -121,38 +124,50 @@ module _ {t : Table} (trees : Language t) where
               ends = omega (arith, f .ends, ap length same);
             }
 
-        go : (b : Bool) → accepts (length es) (size - text) head ≡ b → {s : Scanned} → pick b s Malformed ≡ Ends p o
+        go : (b : Bool) → lets-in ≡ b → {s : Scanned} → pick b s Malformed ≡ Ends p o
             → (s ≡ Ends p o → Found es (sortsWaited (below c head ++ st)) (at + 1) p)
             → Found (e ∷ es) (c .sort ∷ sortsWaited st) at p
         go false a h next = never h
         go true a h next =
             let i = inSort (sortAt (t .words) (c .sort)) (e .code) in
-            let u = from-true a in
+            let u = and-left (accepts (length es) (size - text) head) _ (from-true a) in
             let n = deeper (c .nesting) head in
             let k = enclosed (c .calls) head in
             grown (is-true (and-both i _ (and-left i _ u)
             (and-left (valued (valuesOf (rowAt (t .words) (e .code))) (e .value)) _ (and-right i _ u))))
             (subst (λ (l : List ℕ). Found es l (at + 1) p) (sorts-append n k ss st) (next h))
 
--- a scan that used up all entries took their text
+-- a scan that used up all entries took their text, and each text is one that it takes
+pub record TookAll (longest : ℕ) (es : List Entry) (text : ℕ) (p : Place) : Type 0 where
+  pub text-ends : p .text ≡ text + widthsOf es
+  pub texts-pass : TextsPass longest es
+
 module _ (t : Table) (longest size : ℕ) where
-  pub ends-text : (es : List Entry) (st : List Wait) (at text : ℕ) (over : Bool) (p : Place) (o : Bool)
-      → scanOf (t .words) longest size es st at text over ≡ Ends p o → p .at ≡ at + length es → p .text ≡ text + widthsOf es
-  ends-text [] [] at text over p o h e = ap (λ (q : Place). q .text) (same-place h) ∙ sym (add-zero text)
-  ends-text [] (c ∷ st) at text over p o h e = never h
-  ends-text (x ∷ es) [] at text over p o h e = let z = ap (λ (q : Place). q .at) (same-place h) in absurd (omega arith)
-  ends-text (x ∷ es) (c ∷ st) at text over p o h e =
-      go (accepts (length es) (size - text) head) h
-      (λ g. ends-text es (below c head ++ st) (at + 1) (text + head .text) (over || exceeds longest c head) p o g (omega arith))
+  pub took-all : (es : List Entry) (st : List Wait) (at text : ℕ) (over : Bool) (p : Place) (o : Bool)
+      → scanOf (t .words) longest size es st at text over ≡ Ends p o → p .at ≡ at + length es → TookAll longest es text p
+  took-all [] [] at text over p o h e =
+      record { text-ends = ap (λ (q : Place). q .text) (same-place h) ∙ sym (add-zero text); texts-pass = all-nil }
+  took-all [] (c ∷ st) at text over p o h e = never h
+  took-all (x ∷ es) [] at text over p o h e = let z = ap (λ (q : Place). q .at) (same-place h) in absurd (omega arith)
+  took-all (x ∷ es) (c ∷ st) at text over p o h e =
+      go lets-in refl h
+      (λ g. took-all es (below c head ++ st) (at + 1) (text + head .text) (over || exceeds longest c head) p o g (omega arith))
     where
       head : Head
       head = headOf (t .words) (c .sort) (x .code) (x .value)
 
+      lets-in : Bool
+      lets-in = accepts (length es) (size - text) head && textPasses longest (x .text)
+
       width : head .text ≡ textWidth (isText (x .code)) (x .value)
       width = ap (λ (b : Bool). textWidth b (x .value)) (t .texts-are (x .code))
 
-      go : (b : Bool) {s : Scanned} → pick b s Malformed ≡ Ends p o
-          → (s ≡ Ends p o → p .text ≡ text + head .text + widthsOf es)
-          → p .text ≡ text + widthsOf (x ∷ es)
-      go false h next = never h
-      go true h next = omega (arith, next h, width)
+      go : (b : Bool) → lets-in ≡ b → {s : Scanned} → pick b s Malformed ≡ Ends p o
+          → (s ≡ Ends p o → TookAll longest es (text + head .text) p) → TookAll longest (x ∷ es) text p
+      go false a h next = never h
+      go true a h next =
+          let rest = next h in
+          record {
+            text-ends = omega (arith, rest .text-ends, width);
+            texts-pass = all-cons (and-right (accepts (length es) (size - text) head) _ (from-true a)) (rest .texts-pass);
+          }

@@ -1,6 +1,7 @@
 pub mod Located
 pub mod Holding
 mod Parts
+mod Moves
 mod Turns
 pub mod Passing
 pub mod Trees

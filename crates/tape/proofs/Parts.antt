@@ -2,17 +2,13 @@
 -- Assumes nothing.
 use Prim.Native.Nat.{ℕ, suc, _+_, _-_, _≤_, _<_}
 use mathlib.Core.Path.{_≡_, ap, sym, _∙_}
-use mathlib.Core.Bool.{Bool, _&&_, and-assoc}
 use mathlib.Core.List.{List, []}
-use native.Mathlib.Numerals.{add-one}
 use native.Mathlib.Omega.{arith}
-use lib.Dec.{leb}
-use lib.ListN.{length, take, drop, getD, length-drop, drop-of-length-le}
-use lib.Seq.{drop-cons, take-all, take-nil}
+use lib.ListN.{length, take, drop, length-drop, drop-of-length-le}
+use lib.Seq.{take-all, take-nil}
 use Rattle.definition.specs.Size.{size}
 use Rattle.format.specs.Limits.{isNode, weigh}
 use Rattle.format.specs.Stands.{part}
-use Rattle.format.specs.Tape.{printable}
 use Rattle.format.proofs.Stands.{part-cons}
 use Rattle.tape.specs.Layouts.{codeAt, codesBetween}
 use Rattle.tape.specs.declared.layout.Layout.{Layout}
@@ -24,13 +20,6 @@ part-past s i n h = ap (take n) (drop-of-length-le s {i = i} h) ∙ take-nil n
 pub part-rest : (s : List ℕ) (i n : ℕ) → length s - i ≤ n → part s i n ≡ part s i (length s - i)
 part-rest s i n h =
     take-all n (drop i s) (omega (arith, length-drop i s)) ∙ sym (take-all (length s - i) (drop i s) (omega (arith, length-drop i s)))
-
--- the first byte is tested, and the others are left
-pub printable-turn : (fine : Bool) (s : List ℕ) (i : ℕ) → i < length s
-    → (fine && (leb 32 (getD s i 0) && leb (getD s i 0) 126) && printable (drop (i + 1) s)) ≡ (fine && printable (drop i s))
-unfolding printable
-printable-turn fine s i h =
-    rw (drop-cons s i 0 h, add-one) (and-assoc fine (leb 32 (getD s i 0) && leb (getD s i 0) 126) (printable (drop (suc i) s)))
 
 -- the first entry, and the others
 pub nodes-step : (s : List ℕ) (l : Layout) (i to : ℕ) → i < to → l .codes + to ≤ length s

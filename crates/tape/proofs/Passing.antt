@@ -12,7 +12,7 @@ use lib.ListN.{length, length-append, length-replicate}
 use Rattle.format.specs.Entry.{Entry, textOf}
 use Rattle.format.specs.Limits.{weigh}
 use Rattle.format.specs.Tape.{isText, textWidth}
-use Rattle.format.proofs.All.{all-nil, all-cons, all-append}
+use Rattle.format.proofs.All.{All, all-nil, all-cons, all-head, all-tail, all-append, all-left, all-right}
 use Rattle.format.proofs.Encodes.{WellTexted}
 use Rattle.format.proofs.Stands.{text-append}
 use Rattle.grammar.specs.Grammar.{Follows, once, each, sortsOf}
@@ -20,7 +20,7 @@ use Rattle.grammar.specs.Words.{sortAt, rowAt, inSort, isFew, valuesOf, nesting
 use Rattle.grammar.specs.Waits.{Wait, wait, waits, headOf, valued, counted, accepts, deeper, enclosed, isLimited, passes, exceeds}
 use Rattle.grammar.specs.declared.entry.Head.{Head}
 use Rattle.grammar.proofs.Marks.{Table, temporal}
-use Rattle.tape.specs.Scan.{scanOf}
+use Rattle.tape.specs.Scan.{scanOf, textPasses}
 use Rattle.format.proofs.Tests.{and-left, and-right, and-both, is-true, from-true, same-test}
 
 -- ------------------------------------------------------------------ what a test reports
@@ -105,13 +105,22 @@ short-append g longest (e ∷ es) fs =
 
 -- ------------------------------------------------------------------ runs that a scan passes over
 
+-- each text is one that a scan takes
+abbrev pub TextsPass : ℕ → List Entry → Type 0
+TextsPass longest es = All (λ (e : Entry). T (textPasses longest (e .text))) es
+
+-- where no figures are asked for, any texts are
+pub any-pass : (es : List Entry) → TextsPass 0 es
+any-pass [] = all-nil
+any-pass (e ∷ es) = all-cons tt (any-pass es)
+
 -- A run of entries of the sorts ss, with d p entries that pass the test p on a path.
 pub record PassesBy (t : Table) (ss : List ℕ) (es : List Entry) (d : (ℕ → Bool) → ℕ) (listed : Bool) : Type 0 where
   pub texted : WellTexted es
   pub long : length ss ≤ length es
   pub over : ℕ → ℕ → ℕ → Bool
   pub run : (longest size n k : ℕ) (st : List Wait) (rest : List Entry) (at text : ℕ) (o : Bool)
-      → n ≤ 64 → k ≤ 4 → text + length (textOf es) ≤ size
+      → n ≤ 64 → k ≤ 4 → text + length (textOf es) ≤ size → TextsPass longest es
       → scanOf (t .words) longest size (es ++ rest) (waits n k ss ++ st) at text o
       ≡ scanOf (t .words) longest size rest st (at + length es) (text + length (textOf es)) (o || over longest n k)
   pub says : (longest n k : ℕ) → n ≤ 64 → k ≤ 4
@@ -133,7 +142,7 @@ none {t} =
       texted = all-nil;
       long = omega arith;
       over = λ longest n k. false;
-      run = λ longest size n k st rest at text o h₁ h₂ h. moved (t .words) longest size rest st (sym (add-zero at))
+      run = λ longest size n k st rest at text o h₁ h₂ h w. moved (t .words) longest size rest st (sym (add-zero at))
           (sym (add-zero text)) (sym (or-false o));
       says = λ longest n k h₁ h₂. record {
         passed = λ t q. t;
@@ -159,13 +168,13 @@ module _ {t : Table} {ss ts : List ℕ} {es fs : List Entry} {d g : (ℕ → Boo
         texted = all-append (a .texted) (b .texted);
         long = omega (arith, a .long, b .long, length-append ss ts, length-append es fs);
         over = λ longest n k. a .over longest n k || b .over longest n k;
-        run = λ longest size n k st rest at text o h₁ h₂ h.
+        run = λ longest size n k st rest at text o h₁ h₂ h w.
             let l = length-append es fs in
             let u = ap length (text-append es fs) ∙ length-append (textOf es) (textOf fs) in
             rw (append-assoc es fs rest, waits-append n k ss ts st)
-            (a .run longest size n k (waits n k ts ++ st) (fs ++ rest) at text o h₁ h₂ (omega arith)
+            (a .run longest size n k (waits n k ts ++ st) (fs ++ rest) at text o h₁ h₂ (omega arith) (all-left es fs w)
             ∙ b .run longest size n k st rest (at + length es) (text + length (textOf es)) (o || a .over longest n k) h₁ h₂
-            (omega arith)
+            (omega arith) (all-right es w)
             ∙ moved (t .words) longest size rest st (omega arith) (omega arith) (or-assoc o (a .over longest n k) (b .over longest n k)));
         says = λ longest n k h₁ h₂.
             let z = isLimited longest in
@@ -283,15 +292,17 @@ module _ (t : Table) (s : ℕ) (e : Entry) (ok : allowed (t .words) s e ≡ true
           texted = all-cons wide (b .texted);
           long = omega arith;
           over = λ longest n k. exceeds longest (wait s n k) head || b .over longest (deeper n head) (enclosed k head);
-          run = λ longest size n k st rest at text o h₁ h₂ h.
+          run = λ longest size n k st rest at text o h₁ h₂ h w.
               let c = counted-long (followsOf (head .follows)) (e .value) in
               let l = length-append es rest in
               let u = length-append (e .text) (textOf es) in
               let more = exceeds longest (wait s n k) head in
-              let ok′ = lets-in (length (es ++ rest)) (size - text) (omega (arith, b .long)) (omega arith) in
+              let fits = lets-in (length (es ++ rest)) (size - text) (omega (arith, b .long)) (omega arith) in
+              let ok′ : (accepts (length (es ++ rest)) (size - text) head && textPasses longest (e .text)) ≡ true =
+              is-true (and-both (accepts (length (es ++ rest)) (size - text) head) _ (from-true fits) (all-head w)) in
               rw ok′
               (b .run longest size (deeper n head) (enclosed k head) st rest (at + 1) (text + head .text) (o || more) (omega arith)
-              (omega arith) (omega (arith, width))
+              (omega arith) (omega (arith, width)) (all-tail w)
               ∙ moved (t .words) longest size rest st (omega arith) (omega (arith, width))
               (or-assoc o more (b .over longest (deeper n head) (enclosed k head))));
           says = entry-says;

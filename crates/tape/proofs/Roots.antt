@@ -4,11 +4,9 @@ use Prim.Native.Nat.{ℕ, zero, suc, _+_, _*_, _≤_, _<_, max}
 use mathlib.Core.Path.{_≡_, refl, ap, sym, _∙_, subst}
 use mathlib.Core.Bool.{Bool, true, _&&_, and-true, and-assoc, and-comm}
 use mathlib.Core.List.{List, [], _∷_}
-use native.Mathlib.Nat.{add-zero}
 use native.Mathlib.Omega.{arith}
 use lib.Dec.{T, leb, leb→le, le→leb}
-use lib.ListN.{length, drop, getD, length-drop}
-use lib.Seq.{drop-drop, take-all}
+use lib.ListN.{length, getD}
 use Rattle.format.specs.Entry.{Entry, encode, textOf}
 use Rattle.format.specs.Ast.{MacroDef}
 use Rattle.format.specs.Limits.{isNode, isCall, deepCondition, deepCall, deepBody, fitsSizes, fitsDepths}
@@ -173,11 +171,6 @@ module _ {A : Type 0} {root : Root A} {sort : ℕ} (r : RootOf root sort) (s : L
       let l = tapeLayout (length es) (length (textOf es)) in
       let values : Values64 es = h .values-are bytes in
       let stands : Stands s 8 (8 + length es) (8 + 9 * length es) 0 0 es = rw whole at (stands-encoded es) in
-      let i = 8 + 9 * length es in
-      let text : drop (9 * entriesOf s) (drop 8 s) ≡ textOf es =
-      rw (drop-drop (9 * entriesOf s) 8 s, ← n)
-      (sym (take-all (length (textOf es)) (drop i s) (omega (arith, length-drop i s, h .sized)))
-      ∙ rw add-zero at (stands .its-text .spelled)) in
       let fit : T (fitsSizes (length es) (length (textOf es))) = rw (n, t) (h .fitting) in
       record {
         reading = e;
@@ -194,7 +187,7 @@ module _ {A : Type 0} {root : Root A} {sort : ℕ} (r : RootOf root sort) (s : L
           text-left = omega arith;
           small-values = values;
         };
-        in-range = record { values = values; sizes = fit; text = rw (← text) (h .printing) };
+        in-range = record { values = values; sizes = fit; texts = h .well };
         short = rw (← (short-texts es), r .short es) (and-left (root .texts es) _ (h .keeping));
         small = and-right (root .texts es) _ (h .keeping);
       }

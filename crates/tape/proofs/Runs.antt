@@ -24,7 +24,7 @@ use Rattle.tape.specs.declared.layout.Place.{Place}
 use Rattle.tape.specs.declared.scan.Scanned.the-variants.{Ends}
 use Rattle.tape.specs.declared.scan.Skipped.the-variants.{At}
 use Rattle.tape.proofs.Holding.{holding, starting}
-use Rattle.tape.proofs.Passing.{PassesBy, reported}
+use Rattle.tape.proofs.Passing.{PassesBy, any-pass, reported}
 use Rattle.tape.proofs.Places.{entries-stand}
 use Rattle.format.proofs.Tests.{and-left, and-right, and-both, is-true}
 
@@ -81,9 +81,9 @@ module _ {s : List ℕ} {l : Layout} {p : Place} where
 -- ------------------------------------------------------------------ the scan of a run
 
 module _ {t : Table} {s : List ℕ} {l : Layout} {p : Place} {es : List Entry} {sort : ℕ} {d : (ℕ → Bool) → ℕ} {x : Bool} where
-  scan-run : (b : PassesBy t (sort ∷ []) es d x) → sort < 32 → Run s l p es → (longest : ℕ)
-      → scanAt (t .words) s l p sort longest ≡ Ends (place (p .at + length es) (p .text + length (textOf es))) (b .over longest 0 0)
-  scan-run b h r longest =
+  scan-run : (b : PassesBy t (sort ∷ []) es d x) → sort < 32 → Run s l p es
+      → scanAt (t .words) s l p sort 0 ≡ Ends (place (p .at + length es) (p .text + length (textOf es))) (b .over 0 0 0)
+  scan-run b h r =
       let starts-there : starts s l p sort ≡ true =
       is-true (starting s l p sort (record {
         held = r .held;
@@ -95,16 +95,16 @@ module _ {t : Table} {s : List ℕ} {l : Layout} {p : Place} {es : List Entry} {
       let n : l .entries - p .at ≡ length es + k = omega (arith, r .entries-left) in
       let rest = entriesAt (t .words) s l (p .at + length es) (p .text + length (textOf es)) k in
       rw (starts-there, n, entries-stand t s l (p .at) (p .text) (b .texted) (r .small-values) (r .stands) k)
-      (b .run longest (l .size) 0 0 [] rest (p .at) (p .text) false (omega arith) (omega arith) (r .text-left) ∙ stops rest)
+      (b .run 0 (l .size) 0 0 [] rest (p .at) (p .text) false (omega arith) (omega arith) (r .text-left) (any-pass es) ∙ stops rest)
     where
-      stops : (rest : List Entry) {at text : ℕ} {o : Bool} → scanOf (t .words) longest (l .size) rest [] at text o ≡ Ends (place at text) o
+      stops : (rest : List Entry) {at text : ℕ} {o : Bool} → scanOf (t .words) 0 (l .size) rest [] at text o ≡ Ends (place at text) o
       stops [] = refl
       stops (e ∷ more) = refl
 
   -- to skip a tree is to come to the place behind it
   pub skip-run : PassesBy t (sort ∷ []) es d x → sort < 32 → Run s l p es
       → skipIn (t .words) s l p sort ≡ At (place (p .at + length es) (p .text + length (textOf es)))
-  skip-run b h r = ap behind (scan-run b h r 0)
+  skip-run b h r = ap behind (scan-run b h r)
 
 -- a tree at the start of a layout is too deep if it passes the limits on depths
 pub deep-run : {t : Table} {s : List ℕ} {l : Layout} {es : List Entry} {sort : ℕ} {d : (ℕ → Bool) → ℕ} → PassesBy t (sort ∷ []) es d true
@@ -113,7 +113,7 @@ unfolding fitsDepths
 deep-run {t} {d = d} b h r =
     let nodes = d (t .nodes) in
     let calls = d (t .calls) in
-    ap overOf (scan-run b h r 0)
+    ap overOf (scan-run b h r)
     ∙ reported (leb nodes 64 && leb calls 4) (b .says 0 0 0 (omega arith) (omega arith))
     (λ u. record {
       nodes-keep = omega (arith, leb→le nodes 64 (and-left (leb nodes 64) _ u));

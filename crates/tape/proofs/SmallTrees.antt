@@ -2,7 +2,7 @@
 -- Assumes nothing.
 use Prim.Native.Nat.{ℕ, zero, suc, _+_, _-_, _≤_, _<_}
 use mathlib.Core.Path.{_≡_, refl, ap, subst, _∙_}
-use mathlib.Core.Bool.{Bool, true, false}
+use mathlib.Core.Bool.{Bool, true, false, _&&_}
 use mathlib.Core.List.{List, [], _∷_, _++_}
 use mathlib.Core.Logic.{_⊎_, ⊎-elim, inl, inr}
 use native.Mathlib.Omega.{arith}
@@ -23,7 +23,7 @@ use Rattle.grammar.proofs.Leaves.{Texts, leaf, bare-text}
 use Rattle.tape.specs.Flat.{sumOf, sumFrom, innerIn, callsIn, isSmall, isFlat}
 use Rattle.tape.specs.Layouts.{Held, codeAt, widthBy, entriesAt, holds}
 use Rattle.tape.specs.Pick.{pick}
-use Rattle.tape.specs.Scan.{scanOf, scanFrom, starts, overOf, tooDeep}
+use Rattle.tape.specs.Scan.{scanOf, scanFrom, starts, textPasses, overOf, tooDeep}
 use Rattle.tape.specs.declared.layout.Layout.{Layout}
 use Rattle.tape.specs.declared.scan.Scanned.the-variants.{Malformed}
 use Rattle.tape.proofs.Holding.{held}
@@ -137,20 +137,24 @@ flat-scan size [] [] at text h = refl
 flat-scan size [] (w ∷ st) at text h = refl
 flat-scan size (e ∷ es) [] at text h = refl
 flat-scan size (e ∷ es) (w ∷ st) at text (all-cons p h) =
-    go (accepts (length es) (size - text) first) refl
+    go lets-in refl
     (λ lower. flat-scan size es (below w first ++ st) (at + 1) (text + first .text) (all-append lower (all-map (low-less _ _) h)))
   where
     first : Head
     first = head w (e .code) (e .value)
 
-    go : (b : Bool) → accepts (length es) (size - text) first ≡ b
+    lets-in : Bool
+    lets-in = accepts (length es) (size - text) first && textPasses 0 (e .text)
+
+    go : (b : Bool) → lets-in ≡ b
         → (All (Low (nodesIn es) (callsAmong es)) (below w first)
         → overOf (scanOf temporalWords 0 size es (below w first ++ st) (at + 1) (text + first .text) false) ≡ false)
         → overOf (pick b (scanOf temporalWords 0 size es (below w first ++ st) (at + 1) (text + first .text) (exceeds 0 w first)) Malformed)
         ≡ false
     go false a next = refl
     go true a next =
-        let i = is-true (and-left (inSort (sortAt temporalWords (w .sort)) (e .code)) _ (from-true a)) in
+        let u = and-left (accepts (length es) (size - text) first) _ (from-true a) in
+        let i = is-true (and-left (inSort (sortAt temporalWords (w .sort)) (e .code)) _ u) in
         let k = stays w (e .code) (e .value) (nodesIn es) (callsAmong es) i p in
         rw (k .passes) (next (k .lower))
 

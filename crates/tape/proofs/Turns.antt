@@ -2,17 +2,19 @@
 -- Assumes nothing.
 use Prim.Native.Nat.{ℕ, zero, suc, _+_, _-_, _/_, _%_, _≤_, _<_}
 use mathlib.Core.Path.{_≡_, refl, ap, _∙_}
-use mathlib.Core.Bool.{Bool, true, false, _||_}
+use mathlib.Core.Bool.{Bool, true, false, _&&_, _||_, or-true}
 use mathlib.Core.List.{List, [], _∷_, _++_}
 use native.Mathlib.Omega.{arith}
 use lib.ListN.{length, getD, drop, drop-of-length-le}
-use lib.Dec.{leb, leb→le}
-use Rattle.format.specs.Entry.{Entry}
+use lib.Dec.{leb, eqb, leb→le}
+use Rattle.format.specs.Entry.{Text, Entry}
+use Rattle.format.specs.Stands.{part}
+use Rattle.format.specs.Utf8.{follow, between, wellFormed}
 use Rattle.grammar.specs.Words.{inSort, valuesOf, followsOf}
 use Rattle.tape.specs.Layouts.{headAt, entriesAt, widthBy}
 use Rattle.tape.specs.Pick.{pick}
 use Rattle.grammar.specs.Waits.{wait, valued, counted, accepts, below, exceeds}
-use Rattle.tape.specs.Scan.{scanOf}
+use Rattle.tape.specs.Scan.{scanOf, textPasses}
 use Rattle.grammar.specs.Stack.{cellOf, waitOf, waitsOf, stackOf}
 use Rattle.tape.specs.declared.layout.Layout.{Layout}
 use Rattle.grammar.specs.declared.entry.Head.{Head}
@@ -32,6 +34,11 @@ let-in left room e h =
     let t = and-right (valued (valuesOf (e .row)) (e .value)) _ (and-right (inSort (e .sort) (e .code)) _ (from-true h)) in
     let few = leb (counted (followsOf (e .follows)) (e .value)) left in
     (leb→le _ _ (and-left few _ t), leb→le _ _ (and-right few _ t))
+
+-- a text of no bytes passes
+pub nothing-passes : (longest : ℕ) (t : Text) → t ≡ [] → true ≡ textPasses longest t
+unfolding wellFormed follow between
+nothing-passes longest t e = rw (e, or-true (eqb longest 0))
 
 first-is : (w : ℕ) → waitsOf (cellOf w) ≡ waitOf w ∷ drop 1 (waitsOf (cellOf w))
 first-is w =
@@ -62,13 +69,16 @@ module _ (g : List ℕ) (longest : ℕ) (s : List ℕ) (l : Layout) (stack : Lis
       abbrev lets-in : Bool
       lets-in = accepts (l .entries - at - 1) (l .size - text) e
 
+      abbrev its-text : Bool
+      its-text = textPasses longest (part s (l .text + text) (e .text))
+
       abbrev onward : Scanned
       onward =
           scanOf g longest (l .size) (entriesAt g s l (at + 1) (text + e .text) (l .entries - (at + 1)))
           (below (waitOf w) e ++ (drop 1 (waitsOf (cellOf w)) ++ stackOf stack (top + 1)))
           (at + 1) (text + e .text) (over || exceeds longest (waitOf w) e)
 
-      turn : scanned ≡ pick lets-in onward Malformed
+      turn : scanned ≡ pick (lets-in && its-text) onward Malformed
       turn =
           let n : l .entries - at ≡ suc (l .entries - (at + 1)) = omega arith in
           let left : l .entries - at - 1 ≡ length (entriesAt g s l (at + 1) (text + e .text) (l .entries - (at + 1))) =
@@ -76,7 +86,13 @@ module _ (g : List ℕ) (longest : ℕ) (s : List ℕ) (l : Layout) (stack : Lis
           rw (left, n, top-cell stack top in-stack, ← w-is, first-is w, e-is)
 
       pub refused : lets-in ≡ false → scanned ≡ Malformed
-      refused h = turn ∙ ap (λ (b : Bool). pick b onward Malformed) h
+      refused h = turn ∙ ap (λ (b : Bool). pick (b && its-text) onward Malformed) h
 
-      pub goes-on : lets-in ≡ true → scanned ≡ onward
-      goes-on h = turn ∙ ap (λ (b : Bool). pick b onward Malformed) h
+      by-text : lets-in ≡ true → scanned ≡ pick its-text onward Malformed
+      by-text h = turn ∙ ap (λ (b : Bool). pick (b && its-text) onward Malformed) h
+
+      pub text-refused : lets-in ≡ true → its-text ≡ false → scanned ≡ Malformed
+      text-refused h t = by-text h ∙ ap (λ (b : Bool). pick b onward Malformed) t
+
+      pub goes-on : lets-in ≡ true → its-text ≡ true → scanned ≡ onward
+      goes-on h t = by-text h ∙ ap (λ (b : Bool). pick b onward Malformed) t

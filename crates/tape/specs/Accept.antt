@@ -2,9 +2,7 @@
 -- Assumes nothing.
 use Prim.Native.Nat.{ℕ}
 use mathlib.Core.List.{List}
-use lib.ListN.{drop}
 use lib.Dec.{eqb}
-use Rattle.format.specs.Tape.{printable}
 use Rattle.grammar.specs.Words.{temporalWords}
 use Rattle.tape.specs.Header.{openOf}
 use Rattle.tape.specs.Pick.{pick}
@@ -22,8 +20,7 @@ judged l (Ends p over) =
     pick (eqb (p .at) (l .entries)) (pick (eqb (p .text) (l .size)) (pick over (Refused 3) (Tape l)) (Refused 2)) (Refused 2)
 
 abbrev pub acceptIn : List ℕ → ℕ → List ℕ → ℕ → Layout → Opened
-acceptIn g longest s sort l =
-    pick (printable (drop (l .text) s)) (judged l (scanAt g s l (record { at = 0; text = 0 }) sort longest)) (Refused 2)
+acceptIn g longest s sort l = judged l (scanAt g s l (record { at = 0; text = 0 }) sort longest)
 
 abbrev pub afterOpen : List ℕ → ℕ → List ℕ → ℕ → Opened → Opened
 afterOpen g longest s sort (Tape l) = acceptIn g longest s sort l

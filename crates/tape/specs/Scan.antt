@@ -1,12 +1,13 @@
 -- Whether the entries from a place on are of a sort, where they end, and whether they pass a largest figure: a pushdown automaton over
--- the words of a table. Its stack holds what is still to come.
+-- the words of a table. Its stack holds what is still to come. A text of an input is well-formed.
 -- Assumes nothing.
 use Prim.Native.Nat.{ℕ, _+_, _-_}
 use mathlib.Core.List.{List, [], _∷_, _++_}
 use mathlib.Core.Bool.{Bool, false, _&&_, _||_}
 use lib.ListN.{length}
-use lib.Dec.{leb, ltb}
-use Rattle.format.specs.Entry.{Entry}
+use lib.Dec.{leb, ltb, eqb}
+use Rattle.format.specs.Entry.{Text, Entry}
+use Rattle.format.specs.Utf8.{wellFormed}
 use Rattle.grammar.specs.Pick.{pick}
 use Rattle.grammar.specs.Waits.{Wait, wait, headOf, accepts, exceeds, below}
 use Rattle.grammar.specs.Words.{temporalWords}
@@ -18,6 +19,10 @@ use Rattle.tape.specs.declared.scan.Scanned.the-variants.{Ends, Malforme
 use Rattle.tape.specs.declared.scan.Skipped.{Skipped}
 use Rattle.tape.specs.declared.scan.Skipped.the-variants.{At, Nowhere}
 
+-- a text of an input is well-formed; where no figures are asked for, texts are not looked at
+abbrev pub textPasses : ℕ → Text → Bool
+textPasses longest t = eqb longest 0 || wellFormed t
+
 -- the entry and the text offset where the stack is empty, and whether a largest figure was passed
 abbrev pub scanOf : List ℕ → ℕ → ℕ → List Entry → List Wait → ℕ → ℕ → Bool → Scanned
 scanOf g longest size [] [] at text over = Ends (record { at = at; text = text }) over
@@ -25,7 +30,7 @@ scanOf g longest size [] (w ∷ st) at text over = Malformed
 scanOf g longest size (e ∷ es) [] at text over = Ends (record { at = at; text = text }) over
 scanOf g longest size (e ∷ es) (w ∷ st) at text over =
     let h = headOf g (w .sort) (e .code) (e .value) in
-    pick (accepts (length es) (size - text) h)
+    pick (accepts (length es) (size - text) h && textPasses longest (e .text))
     (scanOf g longest size es (below w h ++ st) (at + 1) (text + h .text) (over || exceeds longest w h))
     Malformed
 

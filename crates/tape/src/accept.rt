@@ -5,7 +5,6 @@ use crate::layout::Layout;
 use crate::layout::Place;
 use crate::scan::Scanned;
 use crate::scan::scan;
-use crate::text::is_printable;
 use grammar::codes::table;
 ghost use mathlib.Core.Path.{_≡_};
 ghost use Rattle.tape.specs.Accept.{acceptBy, acceptIn, acceptOf, judged};
@@ -32,14 +31,10 @@ pub fn accept_by(grammar: &[u64], longest: u64, s: &[u8], sort: u64) -> Opened
 fn accept_in(grammar: &[u64], longest: u64, s: &[u8], l: Layout, sort: u64) -> Opened
     ensures { λ r. ⌜ r ≡ acceptIn (now (grammar .entry)) longest (now (s .entry)) sort l ⌝ }
 {
-    if is_printable(s, l.text) {
-        judge(
-            l,
-            scan(grammar, s, l, Place { at: 0, text: 0 }, sort, longest),
-        )
-    } else {
-        Opened::Refused(2)
-    }
+    judge(
+        l,
+        scan(grammar, s, l, Place { at: 0, text: 0 }, sort, longest),
+    )
 }
 
 // A scan that ends where entries and text are used up found the root wanted.

@@ -7,3 +7,4 @@ pub mod layout;
 pub mod part;
 pub mod scan;
 pub mod text;
+pub mod utf8;

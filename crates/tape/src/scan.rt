@@ -5,6 +5,7 @@ use crate::layout::Place;
 use crate::layout::code_at;
 use crate::layout::holds;
 use crate::layout::value_at;
+use crate::utf8::well_formed;
 use grammar::codes::both;
 use grammar::codes::either;
 use grammar::codes::follows_in;
@@ -20,9 +21,10 @@ use grammar::stack::put;
 ghost use mathlib.Core.Path.{_≡_};
 ghost use Prim.Native.Nat.{_+_, _*_, _≤_, _<_};
 ghost use lib.ListN.{length};
+ghost use Rattle.format.specs.Stands.{part};
 ghost use Rattle.grammar.specs.Stack.{cell};
 ghost use Rattle.tape.specs.Layouts.{headAt};
-ghost use Rattle.tape.specs.Scan.{scanAt, scanFrom, skipAt, skipIn, starts, tooDeep, tooDeepIn};
+ghost use Rattle.tape.specs.Scan.{scanAt, scanFrom, skipAt, skipIn, starts, textPasses, tooDeep, tooDeepIn};
 ghost use Rattle.tape.specs.Turn.{CanTurn, Starts, Turned};
 
 // Where the entries of a sort end, and whether they pass a largest figure; or they are none.
@@ -64,6 +66,26 @@ enum Turn {
     Passed(usize, usize, bool),
 }
 
+// Whether a text may stand on an input: it is well-formed. Where no figures are asked for, it is not looked at.
+fn text_passes(s: &[u8], l: Layout, text: usize, len: usize, longest: u64) -> bool
+    ensures { λ r. ⌜ r ≡ textPasses longest (part (now (s .entry)) (l .text + text) len) ⌝ }
+{
+    let section = l.text;
+    if len == 0 {
+        return true;
+    }
+    if longest == 0 {
+        return true;
+    }
+    if s.len() < section {
+        return true;
+    }
+    if s.len() - section < text {
+        return true;
+    }
+    well_formed(s, section + text, len)
+}
+
 // Takes the entry at a place off the top of the stack, and puts what it brings there.
 fn take_entry(
     stack: &mut [u64],
@@ -83,6 +105,9 @@ fn take_entry(
     let w = stack[top];
     let e = head_at(grammar, s, l, w % 64, at);
     if !accepts(entries - at - 1, size - text, e) {
+        return Turn::Refused;
+    }
+    if !text_passes(s, l, text, e.text as usize, longest) {
         return Turn::Refused;
     }
     let over = exceeds(longest, w, e);
@@ -203,7 +228,7 @@ fn starts(s: &[u8], l: Layout, from: Place, sort: u64) -> bool
 }
 
 // The entries of a sort from a place on, by any table. `longest` is the longest text of a name, or 0 where the figures of an
-// input are not asked for.
+// input are not asked for, nor its texts tested.
 pub fn scan(grammar: &[u64], s: &[u8], l: Layout, from: Place, sort: u64, longest: u64) -> Scanned
     ensures { λ r. ⌜ r ≡ scanAt (now (grammar .entry)) (now (s .entry)) l from sort longest ⌝ }
 {

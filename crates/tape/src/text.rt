@@ -1,4 +1,4 @@
-// The text section, and the number of nodes.
+// The number of nodes.
 use crate::layout::Layout;
 use crate::layout::code_at;
 use crate::layout::holds;
@@ -6,24 +6,9 @@ use grammar::codes::both;
 use grammar::kind::is_node;
 ghost use mathlib.Core.Path.{_≡_};
 ghost use Prim.Native.Nat.{_+_, _≤_};
-ghost use lib.ListN.{length, drop};
+ghost use lib.ListN.{length};
 ghost use Rattle.definition.specs.Size.{size};
-ghost use Rattle.format.specs.Tape.{printable};
 ghost use Rattle.tape.specs.Layouts.{codesBetween, sizeBetween};
-
-// Whether the bytes from `from` on are all from 20 to 7E hexadecimal.
-pub fn is_printable(s: &[u8], from: usize) -> bool
-    ensures { λ r. ⌜ r ≡ printable (drop from (now (s .entry))) ⌝ }
-{
-    let mut fine = true;
-    let mut i = from;
-    while i < s.len() {
-        let b = s[i];
-        fine = both(fine, both(0x20 <= b, b <= 0x7e));
-        i += 1;
-    }
-    fine
-}
 
 // The number of nodes, the codes 1 to 13 and 20 to 36, among the entries from `from` to `to`.
 pub fn size(s: &[u8], l: Layout, from: usize, to: usize) -> usize

@@ -6,14 +6,10 @@ use Rattle.tape.proofs.accept.accept_in.Statement.{statement}
 use Rattle.tape.proofs.accept.accept_in.Tie as tie
 
 returns : tie.Need-returns
-returns c =
-    c .judge .ensures ∙ rw (← c .before .before .before .is-printable .ensures, c .before .before .if1 .taken, c .before .scan .ensures)
-
-returns-2 : tie.Need-returns-2
-returns-2 c = rw (← c .before .is-printable .ensures, c .if1 .left)
+returns c = c .judge .ensures ∙ rw (c .before .scan .ensures)
 
 pub accept-in-spec : {M : Type 1} → statement M
 accept-in-spec =
     tie.close
     (tie.spec
-    (λ c κs. search needs) (λ c κs. search needs) (λ c κs. search needs) returns returns-2)
+    (λ c κs. search needs) (λ c κs. search needs) returns)
