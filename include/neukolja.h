@@ -6,8 +6,12 @@
  * zero at its end. A text on a tape that is no well-formed UTF-8 (RFC 3629), or holds 00 to 1F or 7F, is refused with
  * NEUKOLJA_MALFORMED; lengths are bytes.
  *
+ * Code 2, a disjunction, is withdrawn: a tape may hold it, and `a or b` is taken as the negation of the conjunction of the two
+ * negations. The largest figures hold of the tape so rewritten too, which has three entries more for each 2 and nests two levels
+ * deeper at each, and so do sizes, charges and messages. No result holds a 2.
+ *
  * Stack: the walks recurse as deep as tapes nest. Measured at the deepest inputs on x86-64 (`bench stack`): neukolja_check 70,847
- * bytes, neukolja_registry 14,199, neukolja_substitute 121,135, neukolja_expand 273,823. A linker script or a thread must provide
+ * bytes, neukolja_registry 14,223, neukolja_substitute 146,303, neukolja_expand 299,007. A linker script or a thread must provide
  * it, with what the caller itself needs and some room on top: nothing checks it while a function runs.
  *
  * A function keeps nothing between calls, so several threads may call it at once, each with buffers of its own. What a call

@@ -97,6 +97,24 @@ pub fn grow_inside(node: &mut Node, figure: Figure, more: usize) -> bool {
     }
 }
 
+/// Ors inside one another around a condition of the tree, if it has one at its root, in a body or in an argument.
+pub fn wrap_in_ors(random: &mut Random, tree: &mut Node) {
+    if let 41 | 54 | 55 | 60 | 62 = tree.code
+        && let Some(last) = tree.children.last_mut()
+    {
+        return wrap_in_ors(random, last);
+    }
+    if !matches!(tree.code, 1..=13) {
+        return;
+    }
+    for _ in 0..random.size(LARGEST.nesting / 3) {
+        let other = Node::new(8, tape::span(2, 3), vec![Node::new(53, 4, vec![]), array(1, 0), array(1, 0)]);
+        let inner = std::mem::replace(tree, other.clone());
+        let sides = if random.chance(50) { vec![inner, other] } else { vec![other, inner] };
+        *tree = Node::new(2, tape::span(random.below(9) as u32, 9), sides);
+    }
+}
+
 /// How much has to be added for a figure to come to rest at or around its limit.
 pub fn missing(random: &mut Random, figure: Figure, now: &Measure) -> Option<usize> {
     let target = figure.largest() + random.weighted(&[0, 40, 40, 10, 10]) - 1;

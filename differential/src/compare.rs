@@ -40,16 +40,21 @@ fn hear_upstream(case: &Case, answer: &Answer, notes: &Notes) -> Result<Witness,
     if notes.trees.is_empty() {
         return Ok(Witness::ModelAlone);
     }
-    for (tree, bytes) in notes.trees.iter().zip(&case.tapes) {
+    for (tree, bytes) in notes.given.iter().zip(&case.tapes) {
         same("a tape read and written", &tape::encode(tree), bytes)?;
     }
-    let run = |reach: Reach| match (case.operation, &notes.trees[..]) {
-        (Operation::Check, [definition]) => upstream::check(definition),
-        (Operation::Registry, [definitions]) => upstream::registry(definitions),
-        (Operation::Substitute, [definition, call]) => upstream::substitute(definition, call, reach),
-        (Operation::Expand, [definitions, condition]) => upstream::expand(definitions, condition, reach),
-        _ => unreachable!("all tapes were read"),
-    };
+    if let Some(result) = &notes.result {
+        same("a result without Or", &tape::withdrawn(result), result)?;
+    }
+    // Check and registry answer the same of the trees as they were given.
+    if !case.operation.charges() {
+        same(
+            "the trees with Or",
+            &run(case, &notes.given, Reach::limit(0)),
+            &run(case, &notes.trees, Reach::limit(0)),
+        )?;
+    }
+    let run = |reach: Reach| run(case, &notes.trees, reach);
     let whole = Reach::limit(case.limit as usize);
     match &notes.too_large {
         None => agrees(&run(whole), answer, notes).map(|()| Witness::Upstream),
@@ -66,6 +71,16 @@ fn hear_upstream(case: &Case, answer: &Answer, notes: &Notes) -> Result<Witness,
             let halted = run(Reach { charges: notes.charges, ..whole });
             same_charges(&halted, answer, notes).map(|()| Witness::UpstreamSubstituted)
         }
+    }
+}
+
+fn run(case: &Case, trees: &[Node], reach: Reach) -> Run {
+    match (case.operation, trees) {
+        (Operation::Check, [definition]) => upstream::check(definition),
+        (Operation::Registry, [definitions]) => upstream::registry(definitions),
+        (Operation::Substitute, [definition, call]) => upstream::substitute(definition, call, reach),
+        (Operation::Expand, [definitions, condition]) => upstream::expand(definitions, condition, reach),
+        _ => unreachable!("all tapes were read"),
     }
 }
 

@@ -141,7 +141,13 @@ fn at_a_limit(random: &mut Random, operation: Operation) -> Input {
 /// A condition grows as a whole, a definition in its body, a registry in a definition's, a call in an argument.
 fn grow_a_tape(random: &mut Random, tree: &mut Node) {
     let figure = *random.pick(&FIGURES);
-    let whole = tape::measure(tree);
+    if random.chance(30) {
+        brim::wrap_in_ors(random, tree);
+    }
+    // What is to come to rest at the limit: the tape as it is, or as it is rewritten without Or.
+    let rewritten = random.chance(70);
+    let measure = |node: &Node| if rewritten { tape::measure(&tape::withdrawn(node)) } else { tape::measure(node) };
+    let whole = measure(tree);
     if matches!(tree.code, 1..=13) {
         if let Some(more) = brim::missing(random, figure, &whole)
             && let Some(grown) = brim::grow_condition(tree.clone(), figure, more)
@@ -160,7 +166,7 @@ fn grow_a_tape(random: &mut Random, tree: &mut Node) {
     }
     let i = random.below(parts.len());
     // Entries and text are the whole's, but nesting is that of the part which grows.
-    let now = if figure == Figure::Nesting { tape::measure(&parts[i]) } else { whole };
+    let now = if figure == Figure::Nesting { measure(&parts[i]) } else { whole };
     if let Some(more) = brim::missing(random, figure, &now) {
         let inside = if parts[i].code == 60 { &mut parts[i].children[2] } else { &mut parts[i] };
         brim::grow_inside(inside, figure, more);
@@ -235,7 +241,7 @@ fn result_at_a_limit(random: &mut Random, operation: Operation) -> Input {
             let mut input = multiplying(random, figure);
             let call = input.second.clone().expect("a call");
             let mut walk = Walk::new(u64::from(u32::MAX), UNBOUNDED);
-            if let Ok(result) = walk.substitute_whole(&input.first, &call)
+            if let Ok(result) = walk.substitute_whole(&tape::withdrawn(&input.first), &tape::withdrawn(&call))
                 && let Some(more) = brim::missing(random, figure, &tape::measure(&result))
             {
                 brim::grow_inside(&mut input.first.children[2], figure, more);
@@ -298,7 +304,7 @@ fn expansion_at_a_limit(random: &mut Random, figure: Figure) -> Input {
     let is_value = registry.children[0].children[2].code == 63;
     let mut condition = as_condition(call, is_value);
     let mut walk = Walk::new(u64::from(u32::MAX), UNBOUNDED);
-    if walk.expand_whole(&registry, &condition).is_ok() {
+    if walk.expand_whole(&tape::withdrawn(&registry), &tape::withdrawn(&condition)).is_ok() {
         let [.., (_, of_call), (_, of_outcome), (_, of_whole)] = walk.measured[..] else {
             unreachable!("a call was expanded")
         };

@@ -126,7 +126,6 @@ pub fn not_an_identifier(macro_name: &[u8], name: &[u8]) -> String {
 pub fn not_a_predicate(base: &Node) -> String {
     let shape = match base.code {
         1 => "a conjunction (`&&`)",
-        2 => "a disjunction (internal)",
         3 => "a negation (`!`)",
         4 => "a `formerly` operator",
         5 => "a `previous` operator",

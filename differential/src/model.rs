@@ -41,7 +41,8 @@ pub enum TooLarge {
 /// What the model found out about a case beside its answer.
 #[derive(Clone, Debug, Default)]
 pub struct Notes {
-    /// The trees, where all tapes were accepted.
+    /// The trees as they are on the tapes and as they are rewritten without Or, where all tapes were accepted.
+    pub given: Vec<Node>,
     pub trees: Vec<Node>,
     pub result: Option<Node>,
     pub too_large: Option<TooLarge>,
@@ -109,11 +110,13 @@ fn operate(case: &Case, walk: &mut Walk, notes: &mut Notes) -> Result<Option<Nod
         notes.reason = ["result", "work", "message"][short];
         return refuse(1, 0, String::new());
     }
-    let mut trees = Vec::new();
+    let (mut given, mut trees) = (Vec::new(), Vec::new());
     for (bytes, root) in case.tapes.iter().zip(case.operation.roots()) {
-        trees.push(read(bytes, *root, notes)?);
+        let (as_given, rewritten) = read(bytes, *root).map_err(|unread| refusal_of(unread, notes))?;
+        given.push(as_given);
+        trees.push(rewritten);
     }
-    notes.trees = trees.clone();
+    (notes.given, notes.trees) = (given, trees.clone());
     match (case.operation, &trees[..]) {
         (Operation::Check, [definition]) => check(definition).map(|()| None),
         (Operation::Registry, [definitions]) => registry(definitions).map(|()| None),
@@ -126,17 +129,26 @@ fn operate(case: &Case, walk: &mut Walk, notes: &mut Notes) -> Result<Option<Nod
     }
 }
 
-fn read(bytes: &[u8], root: Sort, notes: &mut Notes) -> Result<Node, Refusal> {
-    let (number, reason) = match tape::accept(bytes, root) {
-        Ok(tree) => return Ok(tree),
-        Err(Unread::Malformed(reason)) => (2, reason),
-        Err(Unread::TooLarge(over)) => {
+/// The tree of a tape as it stands there, and without Or.
+pub fn read(bytes: &[u8], root: Sort) -> Result<(Node, Node), Unread> {
+    let given = tape::accept(bytes, root)?;
+    let rewritten = tape::withdrawn(&given);
+    match tape::over_rewritten(&rewritten) {
+        Some(over) => Err(Unread::TooLarge(over)),
+        None => Ok((given, rewritten)),
+    }
+}
+
+fn refusal_of(unread: Unread, notes: &mut Notes) -> Refusal {
+    let (number, reason) = match unread {
+        Unread::Malformed(reason) => (2, reason),
+        Unread::TooLarge(over) => {
             notes.over_by = over.by;
             (3, over.figure)
         }
     };
     notes.reason = reason;
-    refuse(number, 0, String::new())
+    Refusal { number, span: 0, message: String::new(), cause: (0, 0) }
 }
 
 // ------------------------------------------------------------------ parts of trees

@@ -141,8 +141,8 @@ fn shows(case: &Case, answer: &Answer, notes: &Notes) -> Vec<Shows> {
     let mut all = vec![Shows::Number(answer.number, notes.cause.0, notes.cause.1)];
     all.extend(notes.events.iter().map(|e| Shows::Event(e)));
     all.extend(of_refusals(case, answer, notes));
-    if !notes.trees.is_empty() {
-        let places = places::seen(&notes.trees);
+    if !notes.given.is_empty() {
+        let places = places::seen(&notes.given);
         all.extend(places.iter().map(|(.., code)| Shows::Code { success, code: *code }));
         if success {
             if case.operation.charges() {
@@ -151,8 +151,9 @@ fn shows(case: &Case, answer: &Answer, notes: &Notes) -> Vec<Shows> {
             all.extend(notes.trees.iter().skip(1).map(|tree| Shows::Calls(tape::measure(tree).calls)));
             all.push(Shows::Charges(notes.charges.min(12)));
         }
-        for tree in &notes.trees {
-            all.extend(at_limits(tree));
+        for (given, tree) in notes.given.iter().zip(&notes.trees) {
+            let what = if given == tree { "tape" } else { "rewritten tape" };
+            all.extend(at_limits(tree).into_iter().map(|figure| Shows::AtALimit(what, figure)));
             all.extend(characters_of(tree).into_iter().map(|n| Shows::Character("tape", n)));
             tree.visit(&mut |node| {
                 if node.code == 60 && tape::measure(node).nesting == LARGEST.nesting {
@@ -203,7 +204,7 @@ fn of_refusals(case: &Case, answer: &Answer, notes: &Notes) -> Vec<Shows> {
         }
         all.push(Shows::Reason(number, reason));
     }
-    let read = |(bytes, root): (&Vec<u8>, &Sort)| tape::accept(bytes, *root).map_or_else(number_of, |_| 0);
+    let read = |(bytes, root): (&Vec<u8>, &Sort)| model::read(bytes, *root).map_or_else(number_of, |_| 0);
     let tapes: Vec<u64> = case.tapes.iter().zip(case.operation.roots()).map(read).collect();
     if case.operation == Operation::Expand
         && let Ok(definitions) = tape::accept(&case.tapes[0], Sort::Definitions)
@@ -238,7 +239,7 @@ fn at_figures(m: &Measure) -> impl Iterator<Item = &'static str> + use<> {
 }
 
 /// What of an accepted tape stands exactly at a limit.
-fn at_limits(tree: &Node) -> Vec<Shows> {
+fn at_limits(tree: &Node) -> Vec<&'static str> {
     let mut all: Vec<&'static str> = at_figures(&tape::measure(tree)).collect();
     tree.visit(&mut |node| match node.code {
         22 if node.text.len() == LARGEST_LITERAL => all.push("decimal"),
@@ -248,7 +249,7 @@ fn at_limits(tree: &Node) -> Vec<Shows> {
         _ if node.text.len() == LARGEST_TEXT => all.push("name"),
         _ => {}
     });
-    all.into_iter().map(|figure| Shows::AtALimit("tape", figure)).collect()
+    all
 }
 
 /// The names that a definition declares, each once.

@@ -39,14 +39,14 @@ impl Tally {
         if let Some(reason) = reason(answer, notes) {
             *self.reasons.entry((answer.number, reason)).or_default() += 1;
         }
-        self.places.entry(case.operation).or_default().extend(places::seen(&notes.trees));
-        for (tree, root) in notes.trees.iter().zip(case.operation.roots()) {
+        self.places.entry(case.operation).or_default().extend(places::seen(&notes.given));
+        for (tree, root) in notes.given.iter().zip(case.operation.roots()) {
             self.count("entries on an accepted tape", tape::measure(tree).entries);
             if *root == Sort::Definitions {
                 self.count("definitions of a registry", tree.children.len());
             }
         }
-        self.count_characters("accepted tapes", &notes.trees);
+        self.count_characters("accepted tapes", &notes.given);
         self.count_characters("results", notes.result.as_slice());
         self.count_characters("messages", &[Node::with_text(40, &answer.message)]);
         if let Some(result) = &notes.result {

@@ -408,6 +408,27 @@ fn no_character(end: &[u8], length: usize) -> &'static str {
     }
 }
 
+/// The tree without Or: each is the negation of the conjunction of the two negations, with its span at all four entries.
+pub fn withdrawn(node: &Node) -> Node {
+    let children: Vec<Node> = node.children.iter().map(withdrawn).collect();
+    if node.code == 2 {
+        let not = |c: Node| Node::new(3, node.value, vec![c]);
+        let negations = children.into_iter().map(not).collect();
+        return not(Node::new(1, node.value, negations));
+    }
+    Node { text: node.text.clone(), ..Node::new(node.code, node.value, children) }
+}
+
+/// The figure that an accepted tree is over when it is rewritten without Or.
+pub fn over_rewritten(rewritten: &Node) -> Option<Over> {
+    let figure = |figure| match figure {
+        "entries" => "entries when Or is rewritten",
+        "nesting" => "nesting when Or is rewritten",
+        other => unreachable!("rewriting adds no {other}"),
+    };
+    measure(rewritten).over(&LARGEST).map(|over| Over { figure: figure(over.figure), ..over })
+}
+
 /// The figure other than N and T that a tree that was read is over.
 fn over(tree: &Node) -> Option<Over> {
     let m = measure(tree);

@@ -12,7 +12,10 @@ use borrow.Author.Tests.{le-leb, lt-leb}
 use Rattle.format.specs.Entry.{encode}
 use Rattle.format.specs.Ast.{Tree}
 use Rattle.format.specs.Flat.{flatTree}
-use Rattle.format.specs.Tape.{Reading, Root, read}
+use Rattle.format.specs.Rewritten.{weighted, mapReading}
+use Rattle.format.specs.Tape.{Reading, Root, accept, read, rewritten, Bytes}
+use Rattle.format.proofs.Exact.{Lawful}
+use Rattle.format.proofs.Rewritten.{Rewrites, read-as}
 use Rattle.format.proofs.Tests.{and-left, and-right, from-true}
 use Rattle.definition.specs.Outcome.{Outcome}
 use Rattle.definition.specs.Check.{Verdict}
@@ -32,29 +35,29 @@ use Rattle.answer.specs.declared.tapes.Accepted.the-variants.{Both, Refu
 -- ------------------------------------------------------------------ tapes
 
 -- a tape that is refused
-refused-tape : {A B : Type 0} {root : Root A} {sort n : ℕ} → RootOf root sort → (s : List ℕ) (k : A → Outcome B)
-    → acceptOf s sort ≡ opened.Refused n → reading (read root s) k ≡ numberAlone n
+refused-tape : {A B : Type 0} (root : Root A) {sort n : ℕ} → RootOf root sort → (s : List ℕ) (k : A → Outcome B)
+    → acceptOf s sort ≡ opened.Refused n → reading (accept (weighted root) s) k ≡ numberAlone n
 unfolding reading
-refused-tape {A} {root = root} {n = n} r s k e = go (answers r s) e
+refused-tape {A} root {n = n} r s k e = go (answers r s) e
   where
-    go : {x : Opened} {y : Reading A} → Answers root s x y → x ≡ opened.Refused n → reading y k ≡ numberAlone n
+    go : {x : Opened} {y : Reading A} → Answers (weighted root) s x y → x ≡ opened.Refused n → reading y k ≡ numberAlone n
     go answers-2 e = ap numberAlone cc
     go answers-3 e = ap numberAlone cc
     go (answers-tape h p) e = absurd (let z : _≡_ {A = ℕ} 0 1 = cc in omega arith)
 
 -- one of two
-refused-tapes : {A B C : Type 0} {first : Root A} {second : Root B} {i j n : ℕ} → RootOf first i → RootOf second j → (s t : List ℕ)
+refused-tapes : {A B C : Type 0} (first : Root A) (second : Root B) {i j n : ℕ} → RootOf first i → RootOf second j → (s t : List ℕ)
     (k : A → B → Outcome C) → acceptTwo s i t j ≡ Refused n
-    → reading (read first s) (λ x. reading (read second t) (k x)) ≡ numberAlone n
+    → reading (accept (weighted first) s) (λ x. reading (accept (weighted second) t) (k x)) ≡ numberAlone n
 unfolding acceptTwo reading
-refused-tapes {A} {first = first} {second} {i} {j} {n} p q s t k e = go (answers p s) e
+refused-tapes {A} first second {i} {j} {n} p q s t k e = go (answers p s) e
   where
-    then : (x : A) (d : Layout) (y : Opened) → acceptOf t j ≡ y → afterFirst d y ≡ Refused n → reading (read second t) (k x) ≡ numberAlone n
+    then : (x : A) (d : Layout) (y : Opened) → acceptOf t j ≡ y → afterFirst d y ≡ Refused n → reading (accept (weighted second) t) (k x) ≡ numberAlone n
     then x d (opened.Tape c) z e = absurd (let z : _≡_ {A = ℕ} 0 1 = cc in omega arith)
-    then x d (opened.Refused m) z e = refused-tape q t (k x) (z ∙ cc)
+    then x d (opened.Refused m) z e = refused-tape second q t (k x) (z ∙ cc)
 
-    go : {x : Opened} {y : Reading A} → Answers first s x y → onFirst x (acceptOf t j) ≡ Refused n
-        → reading y (λ x. reading (read second t) (k x)) ≡ numberAlone n
+    go : {x : Opened} {y : Reading A} → Answers (weighted first) s x y → onFirst x (acceptOf t j) ≡ Refused n
+        → reading y (λ x. reading (accept (weighted second) t) (k x)) ≡ numberAlone n
     go answers-2 e = ap numberAlone cc
     go answers-3 e = ap numberAlone cc
     go (answers-tape {a = a} {l = l} h p) e = then a l (acceptOf t j) refl e
@@ -72,6 +75,32 @@ module _ (s t : List ℕ) (i j : ℕ) {d c : Layout} (e : acceptTwo s i t j ≡ 
   pub second-accepted : acceptOf t j ≡ opened.Tape c
   unfolding acceptTwo
   second-accepted = both-accepted (acceptOf s i) (acceptOf t j) e .1
+
+-- what is read is the rewriting of what is accepted with the figures of the rewritten tape
+read-rewritten : {A B : Type 0} {root : Root A} → Rewrites root → Lawful root → (s : List ℕ) → Bytes s → (k : A → Outcome B)
+    → reading (read root s) k ≡ reading (accept (weighted root) s) (λ x. k (rewritten root x))
+unfolding reading mapReading
+read-rewritten {A} {root = root} w law s bytes k = rw (read-as root w law s bytes .one-scan) (go (accept (weighted root) s))
+  where
+    go : (o : Reading A) → reading (mapReading (rewritten root) o) k ≡ reading o (λ x. k (rewritten root x))
+    go Reading.malformed = refl
+    go Reading.tooLarge = refl
+    go (Reading.accepted x) = refl
+
+-- of two tapes
+pub read-two : {A B C : Type 0} {first : Root A} {second : Root B} → Rewrites first → Rewrites second → Lawful first → Lawful second
+    → (s t : List ℕ) → Bytes s → Bytes t → (k : A → B → Outcome C)
+    → reading (read first s) (λ x. reading (read second t) (k x))
+    ≡ reading (accept (weighted first) s) (λ x. reading (accept (weighted second) t) (λ y. k (rewritten first x) (rewritten second y)))
+unfolding reading
+read-two {A} {first = first} {second = second} w v law rule s t p q k =
+    read-rewritten w law s p (λ x. reading (read second t) (k x)) ∙ go (accept (weighted first) s)
+  where
+    go : (o : Reading A) → reading o (λ x. reading (read second t) (k (rewritten first x)))
+        ≡ reading o (λ x. reading (accept (weighted second) t) (λ y. k (rewritten first x) (rewritten second y)))
+    go Reading.malformed = refl
+    go Reading.tooLarge = refl
+    go (Reading.accepted x) = read-rewritten v rule t q (k (rewritten first x))
 
 -- ------------------------------------------------------------------ buffers
 
@@ -123,21 +152,22 @@ module _ {A : Type 0} (tape : A → List ℕ) (b : Buffers) (o : Outcome A) {lon
 
 -- ------------------------------------------------------------------ one tape, and a message buffer alone
 
-module _ {A : Type 0} {root : Root A} {sort : ℕ} (r : RootOf root sort) (find : A → Verdict) (m : ℕ) (s : List ℕ) where
-  abbrev verdicts : Outcome (Unit {0})
-  verdicts = reading (read root s) λ x. verdict (find x)
+pub message-short : (m : ℕ) (o : Outcome (Unit {0})) {a : Answer} → m < 2048 → a ≡ ended (messageAlone m) (numberAlone 1) → a ≡ messageAnswer m o
+unfolding messageAnswer
+message-short m o h e = ends-short (λ (u : Unit {0}). []) (messageAlone m) o (lt-leb 2048 m h) e
 
-  pub message-short : {a : Answer} → m < 2048 → a ≡ ended (messageAlone m) (numberAlone 1) → a ≡ messageAnswer m verdicts
-  unfolding messageAnswer
-  message-short h e = ends-short (λ (u : Unit {0}). []) (messageAlone m) verdicts (lt-leb 2048 m h) e
+-- an operation that finds the same verdict on the tree as it was given: it accepts the tape, and finds it
+module _ {A : Type 0} (root : Root A) {sort : ℕ} (r : RootOf root sort) (find : A → Verdict) (m : ℕ) (s : List ℕ) where
+  abbrev verdicts : Outcome (Unit {0})
+  verdicts = reading (accept (weighted root) s) λ x. verdict (find x)
 
   pub message-refused : {n : ℕ} {a : Answer} → 2048 ≤ m → acceptOf s sort ≡ opened.Refused n → a ≡ ended (messageAlone m) (numberAlone n)
       → a ≡ messageAnswer m verdicts
   unfolding messageAnswer
   message-refused {n} h q e =
-      ends-refused (λ (u : Unit {0}). []) (messageAlone m) verdicts n (le-leb 2048 m h) (refused-tape r s (λ x. verdict (find x)) q) e
+      ends-refused (λ (u : Unit {0}). []) (messageAlone m) verdicts n (le-leb 2048 m h) (refused-tape root r s (λ x. verdict (find x)) q) e
 
-  pub message-verdict : {x : A} (l : Layout) (v : code.Verdict) {a : Answer} → 2048 ≤ m → read root s ≡ Reading.accepted x
+  pub message-verdict : {x : A} (l : Layout) (v : code.Verdict) {a : Answer} → 2048 ≤ m → accept (weighted root) s ≡ Reading.accepted x
       → messageAnswer m verdicts .messageLength ≤ 2048 → VerdictMatches s l v (find x) → AnswersVerdict s l v (messageAlone m) a
       → a ≡ messageAnswer m verdicts
   unfolding messageAnswer reading ended
@@ -150,23 +180,24 @@ module _ {A : Type 0} {root : Root A} {sort : ℕ} (r : RootOf root sort) (find 
 abbrev treeTape : Tree → List ℕ
 treeTape t = encode (flatTree t)
 
-module _ {A B : Type 0} {first : Root A} {second : Root B} {i j : ℕ} (p : RootOf first i) (q : RootOf second j) (find : A → B → Outcome Tree)
+pub tree-short : (b : Buffers) (o : Outcome Tree) {a : Answer} → longBuffers b ≡ false → a ≡ ended b (numberAlone 1) → a ≡ treeAnswer b o
+unfolding treeAnswer
+tree-short b o h e = ends-short treeTape b o h e
+
+module _ {A B : Type 0} (first : Root A) (second : Root B) {i j : ℕ} (p : RootOf first i) (q : RootOf second j) (find : A → B → Outcome Tree)
     (b : Buffers) (s t : List ℕ) where
   abbrev trees : Outcome Tree
-  trees = reading (read first s) λ x. reading (read second t) λ y. find x y
-
-  pub tree-short : {a : Answer} → longBuffers b ≡ false → a ≡ ended b (numberAlone 1) → a ≡ treeAnswer b trees
-  unfolding treeAnswer
-  tree-short h e = ends-short treeTape b trees h e
+  trees = reading (accept (weighted first) s) λ x. reading (accept (weighted second) t) λ y. find x y
 
   pub tree-refused : {n : ℕ} {a : Answer} → longBuffers b ≡ true → acceptTwo s i t j ≡ Refused n → a ≡ ended b (numberAlone n) → a ≡ treeAnswer b trees
   unfolding treeAnswer
-  tree-refused {n} h k e = ends-refused treeTape b trees n h (refused-tapes p q s t find k) e
+  tree-refused {n} h k e = ends-refused treeTape b trees n h (refused-tapes first second p q s t find k) e
 
-  pub tree-walked : {x : A} {y : B} (d c : Layout) (w : Walk) (bytes : List ℕ) {a : Answer} → longBuffers b ≡ true → read first s ≡ Reading.accepted x
-      → read second t ≡ Reading.accepted y → treeAnswer b trees .messageLength ≤ 2048 → OutcomeMatches s d t c w bytes (find x y)
-      → AnswersOutcome s d t c w bytes b a → a ≡ treeAnswer b trees
+  -- u and v are the tapes that were walked: those that were given, or rewritten
+  pub tree-walked : {x : A} {y : B} (u v : List ℕ) (d c : Layout) (w : Walk) (bytes : List ℕ) {a : Answer} → longBuffers b ≡ true → accept (weighted first) s ≡ Reading.accepted x
+      → accept (weighted second) t ≡ Reading.accepted y → treeAnswer b trees .messageLength ≤ 2048 → OutcomeMatches u d v c w bytes (find x y)
+      → AnswersOutcome u d v c w bytes b a → a ≡ treeAnswer b trees
   unfolding treeAnswer reading
-  tree-walked {x} {y} d c w bytes h g k short matches ends =
+  tree-walked {x} {y} u v d c w bytes h g k short matches ends =
       ends-matched treeTape b trees h (long-enough b h .message) short
       (λ n. let o : trees ≡ find x y = rw (g, k) in rw o (ends (find x y) matches (long-enough b h .result) (rw o at n)))

@@ -7,7 +7,7 @@ use lib.ListN.{length}
 use Rattle.format.specs.Entry.{Entry, entry, textEntry}
 use Rattle.format.specs.Ast.{MacroParam, MacroBody, MacroDef}
 use Rattle.format.specs.Flat.{flatParams, flatBody, flatDef}
-use Rattle.format.specs.Limits.{isNode, deepBody}
+use Rattle.format.specs.Limits.{nodeWeight, deepBody}
 use Rattle.definition.specs.Check.{namesOf, checkBody, checkDef}
 use Rattle.definition.proofs.Values.{value-body}
 use Rattle.nodes.specs.Node.{named, bodyAt, paramAt}
@@ -38,7 +38,7 @@ module _ {s : List ℕ} {l : Layout} where
       one-name s l p (param-read i) (length qs) refl ∙ rw (i .spelled, names-right qs (i .name .runs .first))
 
 module _ (s : List ℕ) (d : Declared) (ps : List MacroParam) (declared : declaredIn s d ≡ namesOf ps) where
-  body-right : (b : MacroBody) (p : Place) → Inside s (d .layout) p (flatBody b) → deepBody isNode b ≤ 64
+  body-right : (b : MacroBody) (p : Place) → Inside s (d .layout) p (flatBody b) → deepBody nodeWeight b ≤ 64
       → Finds s (d .layout) (onBody s d (bodyAt s (d .layout) p)) (past (flatBody b) p) (checkBody (namesOf ps) b)
   unfolding bodyIn checkBody deepBody
   body-right MacroBody.Cedar p h m = rw (parts-body MacroBody.Cedar h) (passes refl)
@@ -49,7 +49,7 @@ module _ (s : List ℕ) (d : Declared) (ps : List MacroParam) (declared : declar
       let i = parts-body (MacroBody.TemporalValue t) h in
       rw (i .read, value-body (namesOf ps) t) (ending (i .runs .ends) (right s d (namesOf ps) declared 64 .term t 0 (i .runs .first) m))
 
-pub def-right : {s : List ℕ} {l : Layout} (def : MacroDef) {p : Place} → Inside s l p (flatDef def) → deepBody isNode (def .body) ≤ 64
+pub def-right : {s : List ℕ} {l : Layout} (def : MacroDef) {p : Place} → Inside s l p (flatDef def) → deepBody nodeWeight (def .body) ≤ 64
     → Finds s l (defIn s l p) (past (flatDef def) p) (checkDef def)
 unfolding defIn checkDef
 def-right {s} {l} def h m =

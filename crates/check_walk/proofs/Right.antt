@@ -11,7 +11,7 @@ use Rattle.grammar.specs.Grammar as grammar
 use Rattle.format.specs.Entry.{Text}
 use Rattle.format.specs.Ast.{WithinSpec, BinderSlot, TypedBinder, Sigil, Condition, Term, AggExpr, NamedArgs, Terms}
 use Rattle.format.specs.Flat.{flatWithin, flatSlot, flatType, flatBinders, lengthTerms, lengthFields, flatCondition, flatTerm, flatAgg, flatFields, flatTerms}
-use Rattle.format.specs.Limits.{isNode, weigh, deepCondition, deepTerm, deepAgg, deepFields, deepTerms}
+use Rattle.format.specs.Limits.{isNode, nodeWeight, weigh, deepCondition, deepTerm, deepAgg, deepFields, deepTerms}
 use Rattle.format.proofs.Deep.{deep-condition, deep-term, deep-agg}
 use Rattle.definition.specs.Outcome.{Refusal, refusal}
 use Rattle.definition.specs.Messages.{undeclaredParameter}
@@ -207,17 +207,17 @@ module _ (s : List ℕ) (d : Declared) (names : List Text) (declared : declaredI
 
   -- the walkers are right about trees that are at most n deep
   pub record Right (W : Walkers) (n : ℕ) : Type 0 where
-    pub condition : (c : Condition) {p : Place} → Inside s (d .layout) p (flatCondition c) → deepCondition isNode c ≤ n
+    pub condition : (c : Condition) {p : Place} → Inside s (d .layout) p (flatCondition c) → deepCondition nodeWeight c ≤ n
         → Finds s (d .layout) (W .condition (Passed p)) (past (flatCondition c) p) (checkTemporalConditionBody names c)
-    pub term : (t : Term) (span : ℕ) {p : Place} → Inside s (d .layout) p (flatTerm t) → deepTerm isNode t ≤ n
+    pub term : (t : Term) (span : ℕ) {p : Place} → Inside s (d .layout) p (flatTerm t) → deepTerm nodeWeight t ≤ n
         → Finds s (d .layout) (W .term span (Passed p)) (past (flatTerm t) p) (checkTemporalTerm names t span)
-    pub agg : (a : AggExpr) {p : Place} → Inside s (d .layout) p (flatAgg a) → deepAgg isNode a ≤ n
+    pub agg : (a : AggExpr) {p : Place} → Inside s (d .layout) p (flatAgg a) → deepAgg nodeWeight a ≤ n
         → Finds s (d .layout) (W .agg (Passed p)) (past (flatAgg a) p) (checkTemporalAggBody names a)
     pub strict-condition : Strict (W .condition)
     pub strict-term : (span : ℕ) → Strict (W .term span)
 
   module _ (W : Walkers) (n : ℕ) (R : Right W n) where
-    each-term : (ts : Terms) (span : ℕ) {p : Place} → Inside s (d .layout) p (flatTerms ts) → deepTerms isNode ts ≤ n
+    each-term : (ts : Terms) (span : ℕ) {p : Place} → Inside s (d .layout) p (flatTerms ts) → deepTerms nodeWeight ts ≤ n
         → Finds s (d .layout) (itemsIn (W .term span) (lengthTerms ts) (Passed p)) (past (flatTerms ts) p) (checkTemporalTerms names ts span)
     unfolding itemsIn checkTemporalConditionBody deepCondition lengthTerms
     each-term Terms.noTerms span h m = ending (parts-terms Terms.noTerms h) (passes refl)
@@ -227,7 +227,7 @@ module _ (s : List ℕ) (d : Declared) (names : List Text) (declared : declaredI
         (chain (itemsIn (W .term span) (lengthTerms ts)) (strict-items (W .term span) (lengthTerms ts)) (R .term t span (runs .first) (omega arith))
         (each-term ts span (runs .second) (omega arith)))
 
-    each-field : (fs : NamedArgs) (span : ℕ) {p : Place} → Inside s (d .layout) p (flatFields fs) → deepFields isNode fs ≤ n
+    each-field : (fs : NamedArgs) (span : ℕ) {p : Place} → Inside s (d .layout) p (flatFields fs) → deepFields nodeWeight fs ≤ n
         → Finds s (d .layout) (itemsIn (fieldIn s d W span) (lengthFields fs) (Passed p)) (past (flatFields fs) p) (checkTemporalFields names fs span)
     unfolding itemsIn checkTemporalConditionBody deepCondition lengthFields pastNameIn
     each-field NamedArgs.noFields span h m = ending (parts-fields NamedArgs.noFields h) (passes refl)
@@ -239,7 +239,7 @@ module _ (s : List ℕ) (d : Declared) (names : List Text) (declared : declaredI
         (starting (ap (W .term span) (rw (i .read))) (R .term t span (i .runs .first) (omega arith)))
         (each-field fs span (i .runs .second) (omega arith)))
 
-    fields-right : (fs : NamedArgs) (span : ℕ) {p : Place} → Inside s (d .layout) p (fieldList fs) → deepFields isNode fs ≤ n
+    fields-right : (fs : NamedArgs) (span : ℕ) {p : Place} → Inside s (d .layout) p (fieldList fs) → deepFields nodeWeight fs ≤ n
         → Finds s (d .layout) (fieldsIn s d W span (Passed p)) (past (fieldList fs) p) (checkTemporalFields names fs span)
     unfolding fieldsIn
     fields-right fs span h m =
@@ -250,7 +250,7 @@ module _ (s : List ℕ) (d : Declared) (names : List Text) (declared : declaredI
     unfolding fieldsIn
     strict-fields span r = refl
 
-    condition-right : (c : Condition) (p : Place) → Inside s (d .layout) p (flatCondition c) → deepCondition isNode c ≤ suc n
+    condition-right : (c : Condition) (p : Place) → Inside s (d .layout) p (flatCondition c) → deepCondition nodeWeight c ≤ suc n
         → Finds s (d .layout) (onCondition s d W (conditionAt s (d .layout) p)) (past (flatCondition c) p) (checkTemporalConditionBody names c)
     unfolding checkTemporalConditionBody deepCondition isNode weigh conditionNodeIn sinceIn
     condition-right (Condition.And sp a b) p h m =
@@ -302,7 +302,7 @@ module _ (s : List ℕ) (d : Declared) (names : List Text) (declared : declaredI
         rw (i .read) (ending (i .runs .ends)
         (chain (fieldsIn s d W sp) (strict-fields sp) (R .condition a (i .runs .first) (omega arith)) (fields-right fs sp (i .runs .second) (omega arith))))
 
-    term-right : (t : Term) (span : ℕ) (p : Place) → Inside s (d .layout) p (flatTerm t) → deepTerm isNode t ≤ suc n
+    term-right : (t : Term) (span : ℕ) (p : Place) → Inside s (d .layout) p (flatTerm t) → deepTerm nodeWeight t ≤ suc n
         → Finds s (d .layout) (onTerm s d W span (termAt s (d .layout) p)) (past (flatTerm t) p) (checkTemporalTerm names t span)
     unfolding checkTemporalConditionBody deepCondition isNode weigh termNodeIn
     term-right (Term.Entity ty id) span p h m = rw (parts-term (Term.Entity ty id) h) (passes refl)
@@ -331,7 +331,7 @@ module _ (s : List ℕ) (d : Declared) (names : List Text) (declared : declaredI
         rw (i .read) (param-right span (i .name) (i .spelled))
     term-right (Term.BinderRef name) span p h m = rw (parts-term (Term.BinderRef name) h .read) (passes refl)
 
-    agg-right : (a : AggExpr) (p : Place) → Inside s (d .layout) p (flatAgg a) → deepAgg isNode a ≤ suc n
+    agg-right : (a : AggExpr) (p : Place) → Inside s (d .layout) p (flatAgg a) → deepAgg nodeWeight a ≤ suc n
         → Finds s (d .layout) (onAgg s d W (aggAt s (d .layout) p)) (past (flatAgg a) p) (checkTemporalAggBody names a)
     unfolding checkTemporalConditionBody deepCondition isNode weigh aggNodeIn bindersIn
     agg-right (AggExpr.Sum sp v bs c) p h m =

@@ -8,6 +8,8 @@ use Rattle.format.specs.Utf8.{openUtf8}
 use Rattle.format.specs.Flat.{openFlat}
 use Rattle.format.specs.Macro.{openMacro}
 use Rattle.format.specs.Limits.{openLimits}
+use Rattle.format.specs.Replace.{openReplace}
+use Rattle.format.specs.DeMorgan.{openDeMorgan}
 use Rattle.format.specs.Build.{openBuild}
 use Rattle.format.specs.Tape.{openTape}
 use Rattle.definition.specs.Text.{utf8, openText}
@@ -19,7 +21,7 @@ use Rattle.definition.specs.Registry.{openRegistry}
 use Rattle.definition.specs.Expand.{openExpand}
 use Rattle.definition.specs.Answers.{answer, numberAlone, reading, longBuffers, treeAnswer, expandTapes, expandAnswer}
 use Rattle.definition.specs.Messages.{openMessages}
-use Rattle.definition.specs.Cases.{definitions, cases, run, resultOf, expected, line, runBytes, undeclared}
+use Rattle.definition.specs.Cases.{definitions, cases, orCase, run, resultOf, expected, line, runBytes, undeclared}
 
 pub fourteen-cases : map run cases ≡ cases
 unfolding
@@ -30,10 +32,17 @@ fourteen-cases = refl
 -- the same through bytes: the registry and the condition are encoded, read back and expanded, and the result is encoded
 pub fourteen-cases-through-bytes : map runBytes cases ≡ map expected cases
 unfolding
-    openEntry openUtf8 openFlat openMacro openLimits openBuild openTape openText openOutcome openSize openCheck openSubstitute
+    openEntry openUtf8 openFlat openMacro openLimits openReplace openDeMorgan openBuild openTape openText openOutcome openSize openCheck openSubstitute
     openRegistry openExpand answer numberAlone reading longBuffers treeAnswer expandTapes expandAnswer definitions cases
     resultOf expected line runBytes
 fourteen-cases-through-bytes = refl
+
+pub or-through-bytes : runBytes orCase ≡ expected orCase
+unfolding
+    openEntry openUtf8 openFlat openMacro openLimits openReplace openDeMorgan openBuild openTape openText openOutcome openSize
+    openCheck openSubstitute openRegistry openExpand answer numberAlone reading longBuffers treeAnswer expandTapes expandAnswer
+    definitions orCase resultOf expected line runBytes
+or-through-bytes = refl
 
 -- "m passes, a body `?y` of m is 20": the body check passes the six definitions, `$b` of z among them, and not every one.
 pub definitions-pass : map checkDef definitions ≡ none ∷ none ∷ none ∷ none ∷ none ∷ none ∷ []

@@ -64,7 +64,7 @@ declared names name span h = go (contains names name) h
 
 -- ------------------------------------------------------------------ the walk
 
-good-charge : (limit k span n : ℕ) → Leaves (λ (u : Unit {0}). Unit {0}) (charge limit k span n)
+pub good-charge : (limit k span n : ℕ) → Leaves (λ (u : Unit {0}). Unit {0}) (charge limit k span n)
 unfolding charge allowed
 good-charge limit k span n = go (leb (n + k) limit)
   where

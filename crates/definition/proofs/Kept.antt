@@ -8,16 +8,17 @@ use mathlib.Core.List.{List, [], _∷_}
 use mathlib.Core.Bool.{Bool, true, false, not, _&&_, false≢true}
 use lib.Dec.{T, leb, leb→le, lit≤}
 use lib.ListN.{length, replicate, length-append, length-replicate}
-use Rattle.format.specs.Entry.{Entry, encode, textOf}
+use Rattle.format.specs.Entry.{Text, Entry, encode, textOf}
 use Rattle.format.specs.Ast.{Condition, Call, Tree, MacroParam, MacroDef}
 use Rattle.format.specs.Flat.{flatCondition, flatCall, flatTree, flatParams, flatDef, flatDefs, flatRegistry}
-use Rattle.format.specs.Limits.{isNode, isCall, deepTree, fitsSizes, fitsDepths, fitsAll, tooLargeTree}
+use Rattle.format.specs.Limits.{nodeWeight, callWeight, deepTree, deepBody, fitsSizes, fitsDepths, fitsAll, tooLargeTree}
 use Rattle.format.specs.Macro.{isCode}
-use Rattle.format.specs.Tape.{Reading, longestText, shortTexts, smallBody, conditionRoot, definitionRoot, callRoot, registryRoot, read}
+use Rattle.format.specs.Tape.{Reading, longestText, shortTexts, fewParams, small, conditionRoot, definitionRoot, callRoot, registryRoot, read}
 use Rattle.format.proofs.All.{All, all-nil, all-cons, all-head, all-tail, all-left, all-right, all-both, all-map}
-use Rattle.format.proofs.Accepted.{Values64, OnTape, accepted-on-tape}
+use Rattle.format.proofs.Accepted.{Values64, OnTape}
 use Rattle.format.proofs.Tests.{and-left, and-right}
 use Rattle.format.proofs.Encodes.{fitting, length-encode}
+use Rattle.format.proofs.Rewritten.{rewrites-condition, rewrites-definition, rewrites-call, rewrites-registry, read-on-tape}
 use Rattle.format.proofs.Exact.{lawful-condition, lawful-definition, lawful-call, lawful-registry}
 use Rattle.definition.specs.Outcome.{Refusal, Outcome}
 use Rattle.definition.specs.Check.{Verdict, namesOf, checkDef}
@@ -26,15 +27,19 @@ use Rattle.definition.specs.Answers.{Buffers, padded, answer, numberAlon
 use Rattle.definition.specs.Kept.{Bounded, CheckBounded, RegistryBounded, SubstituteBounded, ExpandBounded}
 use Rattle.definition.proofs.Good.{good-done, good-refused}
 use Rattle.definition.proofs.Lengths.{Short, Name, Declared, Number, short-reserved, short-duplicate, short-undeclared, short-plain, short-macroInMacro, short-unknown, short-cedarInCondition, short-cedarInValue, short-valueAsCondition, short-conditionAsValue, short-count, short-budget, short-strayCondition, short-strayWithin, short-straySlot, short-strayField, short-strayOperand, short-unbound, short-notACondition, short-binderAsCondition, short-notAnInterval, short-notATerm, short-notAnIdentifier, short-notAPredicate}
-use Rattle.definition.proofs.Verdicts.{Given, passes, refuses, Any, given-body, given-build}
-use Rattle.definition.proofs.Rules.{Rules, Known, RefusalMatches, Fits}
+use Rattle.definition.proofs.Verdicts.{Given, passes, refuses, given-body, given-build}
+use Rattle.definition.proofs.Rules.{closed-texts, Rules, Known, RefusalMatches, Fits}
 use Rattle.definition.proofs.SaidSubstitute.{def-name, def-body, said-substitute}
 use Rattle.definition.proofs.SaidExpand.{said-expand}
 
 -- ------------------------------------------------------------------ the rules: names of at most 255 bytes, values below 2^64
 
+-- of a result's entries nothing is asked but their number
+abbrev Unasked : ℕ → Text → Type 0
+Unasked c t = Unit {0}
+
 abbrev Sized : Entry → Type 0
-Sized e = Known Name Number e
+Sized e = Known Name Unasked Number e
 
 abbrev SizedDef : MacroDef → Type 0
 SizedDef d = All Sized (flatDef d)
@@ -43,12 +48,10 @@ SizedDef d = All Sized (flatDef d)
 no-message : Short []
 no-message = lit≤ tt
 
-short-rules : (limit : ℕ) → limit < 2 ^ 32 → Rules Name Any Short Number (λ n. n ≤ limit) limit
+short-rules : (limit : ℕ) → limit < 2 ^ 32 → Rules Name Unasked Short Number (λ n. n ≤ limit) limit
 short-rules limit small =
     record {
-      no-text = tt;
-      own-text = λ t k. tt;
-      new-name = λ t k start. tt;
+      closed = closed-texts (λ t k start. tt);
       charged = λ n h. h;
       says-nothing = no-message;
       says-30 = short-unknown;
@@ -91,19 +94,19 @@ longest true = omega arith
 longest false = omega arith
 
 sized : {es : List Entry} → All ShortText es → Values64 es → All Sized es
-sized h v = all-map (λ e s. (omega (arith, s .0, longest (isCode (22 ∷ 23 ∷ []) (e .code))), s .1)) (all-both h v)
+sized h v = all-map (λ e s. (omega (arith, s .0, longest (isCode (22 ∷ 23 ∷ []) (e .code))), s .1, tt)) (all-both h v)
 
 sized-condition : (bytes : List ℕ) (c : Condition) → OnTape conditionRoot bytes c → All Sized (flatCondition c)
-unfolding conditionRoot
-sized-condition bytes c t = sized (short-texts (flatCondition c) (t .texts)) (t .range .values)
+unfolding conditionRoot small
+sized-condition bytes c t = sized (short-texts (flatCondition c) (and-left (shortTexts (flatCondition c)) _ (t .small))) (t .range .values)
 
 sized-call : (bytes : List ℕ) (c : Call) → OnTape callRoot bytes c → All Sized (flatCall c)
-unfolding callRoot
-sized-call bytes c t = sized (short-texts (flatCall c) (t .texts)) (t .range .values)
+unfolding callRoot small
+sized-call bytes c t = sized (short-texts (flatCall c) (and-left (shortTexts (flatCall c)) _ (t .small))) (t .range .values)
 
 sized-definition : (bytes : List ℕ) (d : MacroDef) → OnTape definitionRoot bytes d → SizedDef d
-unfolding definitionRoot
-sized-definition bytes d t = sized (short-texts (flatDef d) (t .texts)) (t .range .values)
+unfolding definitionRoot small
+sized-definition bytes d t = sized (short-texts (flatDef d) (and-left (shortTexts (flatDef d)) _ (t .small))) (t .range .values)
 
 -- ------------------------------------------------------------------ the verdicts
 
@@ -121,10 +124,11 @@ length-names [] = refl
 length-names (p ∷ ps) = omega (arith, length-names ps)
 
 short-check : (bytes : List ℕ) (def : MacroDef) → OnTape definitionRoot bytes def → Given ShortRefusal (checkDef def)
-unfolding definitionRoot checkDef smallBody flatDef
+unfolding definitionRoot small checkDef fewParams flatDef
 short-check bytes def t =
-    let texts : All ShortText (flatDef def) = short-texts (flatDef def) (t .texts) in
-    let few = leb→le (length (def .params)) 16 (and-left (leb (length (def .params)) 16) _ (t .small)) in
+    let texts : All ShortText (flatDef def) = short-texts (flatDef def) (and-left (shortTexts (flatDef def)) _ (t .small)) in
+    let depths : Bool = fitsDepths (deepBody nodeWeight (def .body)) (deepBody callWeight (def .body)) in
+    let few = leb→le (length (def .params)) 16 (and-right depths _ (and-right (shortTexts (flatDef def)) _ (t .small))) in
     let names = declared-params (def .params) (all-left (flatParams (def .params)) _ (all-tail (all-tail (all-tail texts)))) in
     given-body Name (namesOf (def .params))
     (record {
@@ -140,8 +144,9 @@ sized-defs [] h = all-nil
 sized-defs (d ∷ ds) h = all-cons (all-left (flatDef d) _ h) (sized-defs ds (all-right (flatDef d) h))
 
 sized-registry : (bytes : List ℕ) (ds : List MacroDef) → OnTape registryRoot bytes ds → All SizedDef ds
-unfolding registryRoot flatRegistry
-sized-registry bytes ds t = sized-defs ds (all-tail (sized (short-texts _ (t .texts)) (t .range .values)))
+unfolding registryRoot small flatRegistry
+sized-registry bytes ds t =
+    sized-defs ds (all-tail (sized (short-texts _ (and-left (shortTexts (flatRegistry ds)) _ (t .small))) (t .range .values)))
 
 short-build : (ds : List MacroDef) → All SizedDef ds → Given ShortRefusal (build ds)
 short-build ds h =
@@ -164,7 +169,7 @@ tape-length : (t : Tree) → tooLargeTree t ≡ false → length (encode (flatTr
 unfolding tooLargeTree fitsAll
 tape-length t h =
     let es : List Entry = flatTree t in
-    let k = fits-of (fitsSizes (length es) (length (textOf es))) (fitsDepths (deepTree isNode t) (deepTree isCall t)) h in
+    let k = fits-of (fitsSizes (length es) (length (textOf es))) (fitsDepths (deepTree nodeWeight t) (deepTree callWeight t)) h in
     let q = fitting (length es) (length (textOf es)) k in
     omega (arith, length-encode es)
 
@@ -230,7 +235,7 @@ unfolding checkAnswer
 check-bounded m definition q =
     bounded-message m _ λ long.
     bounded-reading nothing (messageAlone m) 0 (read definitionRoot definition) _ λ def h.
-    bounded-verdict m long (short-check definition def (accepted-on-tape definitionRoot (lawful-definition .spells) definition q def h))
+    bounded-verdict m long (short-check _ def (read-on-tape definitionRoot rewrites-definition lawful-definition definition q def h))
 
 pub registry-bounded : RegistryBounded
 unfolding registryAnswer
@@ -238,7 +243,7 @@ registry-bounded m registry q =
     bounded-message m _ λ long.
     bounded-reading nothing (messageAlone m) 0 (read registryRoot registry) _ λ defs h.
     bounded-verdict m long
-    (short-build defs (sized-registry registry defs (accepted-on-tape registryRoot (lawful-registry .spells) registry q defs h)))
+    (short-build defs (sized-registry _ defs (read-on-tape registryRoot rewrites-registry lawful-registry registry q defs h)))
 
 -- ------------------------------------------------------------------ substitution and expansion
 
@@ -258,7 +263,7 @@ bounded-tree b limit o f = go (longBuffers b) (λ h. h)
     go false h = bounded-number-alone treeTape b limit 1
 
 bounded-kept : (b : Buffers) (limit : ℕ) {o : Outcome Tree} → 12296 ≤ b .resultLength → 2048 ≤ b .messageLength
-    → Fits Short Any (λ n. n ≤ limit) (λ t. t) o → Bounded b limit (answer treeTape b o)
+    → Fits Short Unasked (λ n. n ≤ limit) (λ t. t) o → Bounded b limit (answer treeTape b o)
 bounded-kept b limit large long (good-done {a = t} {n = n} k) =
     bounded-done treeTape b limit t n (k .0) (omega (arith, tape-length t (k .2)))
 bounded-kept b limit large long (good-refused {r = r} {n = n} k) =
@@ -270,10 +275,10 @@ substitute-bounded b limit small definition input p q =
     bounded-tree b limit _ λ large long.
     bounded-reading treeTape b limit (read definitionRoot definition) _ λ def h.
     bounded-reading treeTape b limit (read callRoot input) _ λ call k.
-    let d = accepted-on-tape definitionRoot (lawful-definition .spells) definition p def h in
-    let c = accepted-on-tape callRoot (lawful-call .spells) input q call k in
+    let d = read-on-tape definitionRoot rewrites-definition lawful-definition definition p def h in
+    let c = read-on-tape callRoot rewrites-call lawful-call input q call k in
     bounded-kept b limit large long
-    (said-substitute (short-rules limit small) def (sized-definition definition def d) call (sized-call input call c))
+    (said-substitute (short-rules limit small) def (sized-definition _ def d) call (sized-call _ call c))
 
 pub expand-bounded : ExpandBounded
 unfolding expandAnswer expandTapes
@@ -281,7 +286,7 @@ expand-bounded b limit small registry input p q =
     bounded-tree b limit _ λ large long.
     bounded-reading treeTape b limit (read registryRoot registry) _ λ defs h.
     bounded-reading treeTape b limit (read conditionRoot input) _ λ condition k.
-    let ds = sized-registry registry defs (accepted-on-tape registryRoot (lawful-registry .spells) registry p defs h) in
-    let c = accepted-on-tape conditionRoot (lawful-condition .spells) input q condition k in
+    let ds = sized-registry _ defs (read-on-tape registryRoot rewrites-registry lawful-registry registry p defs h) in
+    let c = read-on-tape conditionRoot rewrites-condition lawful-condition input q condition k in
     bounded-kept b limit large long
-    (said-expand defs limit (short-rules limit small) ds (short-build defs ds) condition (sized-condition input condition c))
+    (said-expand defs limit (short-rules limit small) ds (short-build defs ds) condition (sized-condition _ condition c))

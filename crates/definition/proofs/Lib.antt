@@ -4,6 +4,8 @@ pub mod Demand3
 pub mod Residue
 pub mod Kept
 pub mod Whole
+pub mod Withdrawn
+pub mod SameVerdicts
 pub mod Names
 pub mod Size
 pub mod Decimal
@@ -17,3 +19,4 @@ pub mod WholeMessages
 mod Rules
 mod SaidSubstitute
 mod SaidExpand
+mod Borne

@@ -27,18 +27,18 @@ use Rattle.definition.proofs.Demand3.{safe}
 
 -- ------------------------------------------------------------------ what passes the tests for stray sigils is none
 
-free-checkWithin : (w : WithinSpec) (span n : ℕ) → Leaves (λ (u : Unit {0}). FreeWithin w) (checkConcreteWithin w span n)
+pub free-checkWithin : (w : WithinSpec) (span n : ℕ) → Leaves (λ (u : Unit {0}). FreeWithin w) (checkConcreteWithin w span n)
 unfolding checkConcreteWithin allowed
 free-checkWithin (WithinSpec.Concrete i) span n = good-done (free-interval i)
 free-checkWithin (WithinSpec.ParamRef k) span n = good-refused tt
 
-free-checkSlot : (v : BinderSlot) (span n : ℕ) → Leaves (λ (u : Unit {0}). FreeSlot v) (checkConcreteSlot v span n)
+pub free-checkSlot : (v : BinderSlot) (span n : ℕ) → Leaves (λ (u : Unit {0}). FreeSlot v) (checkConcreteSlot v span n)
 unfolding checkConcreteSlot allowed flatSlot isMacro
 free-checkSlot (BinderSlot.Name k) span n = good-done refl
 free-checkSlot (BinderSlot.ParamRef k) span n = good-refused tt
 free-checkSlot (BinderSlot.BinderRef k) span n = good-refused tt
 
-free-checkBinders : (bs : List TypedBinder) (span n : ℕ) → Leaves (λ (u : Unit {0}). FreeBinders bs) (checkConcreteBinders bs span n)
+pub free-checkBinders : (bs : List TypedBinder) (span n : ℕ) → Leaves (λ (u : Unit {0}). FreeBinders bs) (checkConcreteBinders bs span n)
 unfolding checkConcreteBinders _>>_ _>>=_ flatBinders flatBinder
 free-checkBinders [] span n = good-done all-nil
 free-checkBinders (b ∷ bs) span n =
@@ -68,7 +68,7 @@ mutual
   passes-terms Terms.noTerms span n = good-done tt
   passes-terms (Terms.consTerm t ts) span n = step (passes-term t span n) λ u n₁ v. passes-terms ts span n₁
 
-passes-fields : (fs : NamedArgs) (span n : ℕ) → Leaves Passed (checkConcreteFields fs span n)
+pub passes-fields : (fs : NamedArgs) (span n : ℕ) → Leaves Passed (checkConcreteFields fs span n)
 unfolding checkConcreteFields _>>_ _>>=_
 passes-fields NamedArgs.noFields span n = good-done tt
 passes-fields (NamedArgs.consField k t fs) span n = step (passes-term t span n) λ u n₁ v. passes-fields fs span n₁
@@ -267,10 +267,10 @@ module _ (reg : Registry) (pass : AllPass (reg .defs)) where
 
 -- ------------------------------------------------------------------ the operation
 
-abbrev FineRefusal : Refusal → Type 0
+abbrev pub FineRefusal : Refusal → Type 0
 FineRefusal r = T (allowed (r .number))
 
-fine-build : (defs : List MacroDef) → Given FineRefusal (build defs)
+pub fine-build : (defs : List MacroDef) → Given FineRefusal (build defs)
 unfolding allowed
 fine-build defs =
     given-build Any (record { reserved = λ n h s. tt; duplicate = λ n h s p. tt }) defs (all-any defs)

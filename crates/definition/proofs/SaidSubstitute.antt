@@ -1,4 +1,4 @@
--- What substitution answers, by the rules: every message has S, every text of the tree M, and what is charged C.
+-- What substitution answers, by the rules: every message has S, every code and text of the tree M, and what is charged C.
 -- Assumes nothing.
 use Prim.Native.Nat.{ℕ, _+_, _≤_}
 use native.Mathlib.Omega.{arith}
@@ -18,7 +18,7 @@ use Rattle.definition.specs.Substitute.{charge, chargeBody, checkArity, 
 use Rattle.definition.proofs.Good.{Good, good-done, good-refused, step}
 use Rattle.definition.proofs.Lookup.{Found, not-found, found, AllArg, lookup-in}
 use Rattle.definition.proofs.Verdicts.{Texts}
-use Rattle.definition.proofs.Rules.{Rules, Known, Said, Answers, Fits}
+use Rattle.definition.proofs.Rules.{Rules, Known, Each, Said, Answers, Fits}
 
 -- ------------------------------------------------------------------ a definition's parts
 
@@ -35,14 +35,10 @@ module _ {P : Entry → Type 0} (def : MacroDef) (h : All P (flatDef def)) where
   unfolding flatDef
   def-body = all-right (flatParams (def .params)) (all-tail (all-tail (all-tail h)))
 
-module _ {N M S : Text → Type 0} {K C : ℕ → Type 0} {limit : ℕ} (rules : Rules N M S K C limit) where
-  -- a tree's entries, none of whose texts is new
-  pub own : {es : List Entry} → All (Known N K) es → Texts M es
-  own h = all-map (λ e k. rules .own-text (e .text) (k .0)) h
-
-  -- an entry without text
-  pub blank : {c v : ℕ} {es : List Entry} → Texts M es → Texts M (record { code = c; value = v; text = [] } ∷ es)
-  blank h = all-cons (rules .no-text) h
+module _ {N S : Text → Type 0} {M : ℕ → Text → Type 0} {K C : ℕ → Type 0} {limit : ℕ} (rules : Rules N M S K C limit) where
+  -- a tree's own entries
+  pub own : {es : List Entry} → All (Known N M K) es → Each M es
+  own h = all-map (λ e k. k .2) h
 
   -- a test answers nothing
   abbrev Tests : Outcome (Unit {0}) → Type 0
@@ -50,7 +46,7 @@ module _ {N M S : Text → Type 0} {K C : ℕ → Type 0} {limit : ℕ} (rules :
 
   -- a single entry
   abbrev Spelt : {A : Type 0} → (A → Entry) → Outcome A → Type 0
-  Spelt flat o = Good (Said S C) (λ a n. C n × M (flat a .text)) o
+  Spelt flat o = Good (Said S C) (λ a n. C n × M (flat a .code) (flat a .text)) o
 
   -- ------------------------------------------------------------------ the budget and the limits
 
@@ -70,7 +66,7 @@ module _ {N M S : Text → Type 0} {K C : ℕ → Type 0} {limit : ℕ} (rules :
   unfolding chargeBody
   said-chargeBody body span n h = said-charge _ span n h
 
-  pub said-arity : (def : MacroDef) → All (Known N K) (flatDef def) → (got span n : ℕ) → K got → C n → Tests (checkArity def got span n)
+  pub said-arity : (def : MacroDef) → All (Known N M K) (flatDef def) → (got span n : ℕ) → K got → C n → Tests (checkArity def got span n)
   unfolding checkArity
   said-arity def q got span n k h = go (eqb (length (def .params)) got)
     where
@@ -89,7 +85,7 @@ module _ {N M S : Text → Type 0} {K C : ℕ → Type 0} {limit : ℕ} (rules :
 
   -- ------------------------------------------------------------------ refinements
 
-  append-fields : (fs gs : NamedArgs) → Texts M (flatFields fs) → Texts M (flatFields gs) → Texts M (flatFields (appendFields fs gs))
+  append-fields : (fs gs : NamedArgs) → Each M (flatFields fs) → Each M (flatFields gs) → Each M (flatFields (appendFields fs gs))
   unfolding appendFields flatFields
   append-fields NamedArgs.noFields gs f g = g
   append-fields (NamedArgs.consField n t fs) gs f g =
@@ -97,15 +93,17 @@ module _ {N M S : Text → Type 0} {K C : ℕ → Type 0} {limit : ℕ} (rules :
       (all-append (all-left (flatTerm t) _ (all-tail f)) (append-fields fs gs (all-right (flatTerm t) (all-tail f)) g))
 
   -- a predicate with other fields
-  pub with-fields : (s o : ℕ) (ns : List Text) (a k : Text) (fs gs : NamedArgs) → Texts M (flatCondition (Condition.Predicate s o ns a k fs))
-      → Texts M (flatFields gs) → Texts M (flatCondition (Condition.Predicate s o ns a k gs))
+  pub with-fields : (s o : ℕ) (ns : List Text) (a k : Text) (fs gs : NamedArgs) → Each M (flatCondition (Condition.Predicate s o ns a k fs))
+      → Each M (flatFields gs) → Each M (flatCondition (Condition.Predicate s o ns a k gs))
   unfolding flatCondition
   with-fields s o ns a k fs gs h g =
       let names = all-tail (all-tail (all-tail h)) in
       let rest = all-right (flatTexts ns) names in
-      blank (blank (blank (all-append (all-left (flatTexts ns) _ names) (all-cons (all-head rest) (all-cons (all-head (all-tail rest)) (blank g))))))
+      all-cons (all-head h) (all-cons (all-head (all-tail h)) (all-cons (all-head (all-tail (all-tail h)))
+      (all-append (all-left (flatTexts ns) _ names)
+      (all-cons (all-head rest) (all-cons (all-head (all-tail rest)) (all-cons (all-head (all-tail (all-tail rest))) g))))))
 
-  pub said-refine : (c : Condition) (gs : NamedArgs) (o n : ℕ) → C n → Texts M (flatCondition c) → Texts M (flatFields gs)
+  pub said-refine : (c : Condition) (gs : NamedArgs) (o n : ℕ) → C n → Each M (flatCondition c) → Each M (flatFields gs)
       → Answers S M C flatCondition (foldRefine c gs o n)
   unfolding foldRefine flatCondition
   said-refine (Condition.Predicate s q ns a k fs) gs o n h f g =
@@ -125,12 +123,12 @@ module _ {N M S : Text → Type 0} {K C : ℕ → Type 0} {limit : ℕ} (rules :
 
   -- ------------------------------------------------------------------ the places of a parameter
 
-  module _ (maps : SubstMaps) (same : maps .limit ≡ limit) (macro : N (maps .macroName)) (given : Texts M (flatArgs (maps .args))) where
+  module _ (maps : SubstMaps) (same : maps .limit ≡ limit) (macro : N (maps .macroName)) (given : Each M (flatArgs (maps .args))) where
     said-argFor : (name : Text) → N name → (span n : ℕ) → C n → Answers S M C flatArg (argFor maps name span n)
     unfolding argFor
     said-argFor name k span n h = go (lookup (maps .params) (maps .args) name) (lookup-in (maps .params) (maps .args) name given)
       where
-        go : (o : Option CallArg) → Found (AllArg (λ (e : Entry). M (e .text))) o → Answers S M C flatArg ((elim o as (λ x. Walk CallArg) [
+        go : (o : Option CallArg) → Found (AllArg (λ (e : Entry). M (e .code) (e .text))) o → Answers S M C flatArg ((elim o as (λ x. Walk CallArg) [
           | some a ↦ pure a
           | none ↦ refuse 41 span (unboundParameter (maps .macroName) name)
         ]) n)
@@ -141,28 +139,28 @@ module _ {N M S : Text → Type 0} {K C : ℕ → Type 0} {limit : ℕ} (rules :
     unfolding chargePaste
     said-chargePaste arg n h = rw same (said-charge _ (maps .callSpan) n h)
 
-    said-pasteCondition : (span : ℕ) (name : Text) → N name → (a : CallArg) (n : ℕ) → C n → Texts M (flatArg a)
+    said-pasteCondition : (span : ℕ) (name : Text) → N name → (a : CallArg) (n : ℕ) → C n → Each M (flatArg a)
         → Answers S M C flatCondition (pasteCondition maps span name a n)
     unfolding pasteCondition _>>=_ _>>_ flatArg
     said-pasteCondition span name k (CallArg.ConditionArg c) n h f = step (said-chargePaste _ n h) λ u n₁ h₁. good-done (h₁, all-tail f)
     said-pasteCondition span name k (CallArg.TermArg t) n h f = good-refused ((rules .says-42 (maps .macroName) name macro k, tt), h)
     said-pasteCondition span name k (CallArg.WithinArg i) n h f = good-refused ((rules .says-42 (maps .macroName) name macro k, tt), h)
 
-    said-pasteTerm : (span : ℕ) (name : Text) → N name → (a : CallArg) (n : ℕ) → C n → Texts M (flatArg a)
+    said-pasteTerm : (span : ℕ) (name : Text) → N name → (a : CallArg) (n : ℕ) → C n → Each M (flatArg a)
         → Answers S M C flatTerm (pasteTerm maps span name a n)
     unfolding pasteTerm _>>=_ _>>_ flatArg
     said-pasteTerm span name k (CallArg.TermArg t) n h f = step (said-chargePaste _ n h) λ u n₁ h₁. good-done (h₁, all-tail f)
     said-pasteTerm span name k (CallArg.ConditionArg c) n h f = good-refused ((rules .says-45 (maps .macroName) name macro k, tt), h)
     said-pasteTerm span name k (CallArg.WithinArg i) n h f = good-refused ((rules .says-45 (maps .macroName) name macro k, tt), h)
 
-    said-pasteWithin : (span : ℕ) (name : Text) → N name → (a : CallArg) (n : ℕ) → C n → Texts M (flatArg a)
+    said-pasteWithin : (span : ℕ) (name : Text) → N name → (a : CallArg) (n : ℕ) → C n → Each M (flatArg a)
         → Spelt flatWithin (pasteWithin maps span name a n)
     unfolding pasteWithin flatArg flatWithin
     said-pasteWithin span name k (CallArg.WithinArg i) n h f = good-done (h, all-head (all-tail f))
     said-pasteWithin span name k (CallArg.ConditionArg c) n h f = good-refused ((rules .says-44 (maps .macroName) name macro k, tt), h)
     said-pasteWithin span name k (CallArg.TermArg t) n h f = good-refused ((rules .says-44 (maps .macroName) name macro k, tt), h)
 
-    identified : (a : CallArg) → Texts M (flatArg a) → Found M (identifier a)
+    identified : (a : CallArg) → Each M (flatArg a) → Found (M 27) (identifier a)
     unfolding identifier flatArg flatTerm
     identified (CallArg.ConditionArg c) f = not-found
     identified (CallArg.WithinArg i) f = not-found
@@ -181,35 +179,31 @@ module _ {N M S : Text → Type 0} {K C : ℕ → Type 0} {limit : ℕ} (rules :
     identified (CallArg.TermArg (Term.ParamRef n)) f = not-found
     identified (CallArg.TermArg (Term.BinderRef n)) f = not-found
 
-    said-pasteSlot : (name : Text) → N name → (a : CallArg) (n : ℕ) → C n → Texts M (flatArg a) → Spelt flatSlot (pasteSlot maps name a n)
+    said-pasteSlot : (name : Text) → N name → (a : CallArg) (n : ℕ) → C n → Each M (flatArg a) → Spelt flatSlot (pasteSlot maps name a n)
     unfolding pasteSlot flatSlot
     said-pasteSlot name k a n h f = go (identifier a) (identified a f)
       where
-        go : (o : Option Text) → Found M o → Spelt flatSlot ((elim o as (λ x. Walk BinderSlot) [
+        go : (o : Option Text) → Found (M 27) o → Spelt flatSlot ((elim o as (λ x. Walk BinderSlot) [
           | some i ↦ pure (BinderSlot.Name i)
           | none ↦ refuse 46 (maps .callSpan) (notAnIdentifier (maps .macroName) name)
         ]) n)
         go none not-found = good-refused ((rules .says-46 (maps .macroName) name macro k, tt), h)
-        go (some i) (found m) = good-done (h, m)
+        go (some i) (found m) = good-done (h, rules .closed .named-slot i m)
 
     -- ------------------------------------------------------------------ slots, intervals, sigils
 
-    said-gensym : (name : Text) → N name → M (gensymFor maps name)
-    unfolding gensymFor
-    said-gensym name k = rules .new-name name k (spanStart (maps .callSpan))
+    said-slot : (v : BinderSlot) → Known N M K (flatSlot v) → (span n : ℕ) → C n → Spelt flatSlot (substBinderSlot maps v span n)
+    unfolding substBinderSlot gensymFor _>>=_ flatSlot
+    said-slot (BinderSlot.Name i) k span n h = good-done (h, k .2)
+    said-slot (BinderSlot.ParamRef i) k span n h = step (said-argFor i (k .0) span n h) λ a n₁ h₁. said-pasteSlot i (k .0) a n₁ (h₁ .0) (h₁ .1)
+    said-slot (BinderSlot.BinderRef i) k span n h = good-done (h, rules .closed .made-slot i (k .0) (k .2) (spanStart (maps .callSpan)))
 
-    said-slot : (v : BinderSlot) → N (flatSlot v .text) → (span n : ℕ) → C n → Spelt flatSlot (substBinderSlot maps v span n)
-    unfolding substBinderSlot _>>=_ flatSlot
-    said-slot (BinderSlot.Name i) k span n h = good-done (h, rules .own-text i k)
-    said-slot (BinderSlot.ParamRef i) k span n h = step (said-argFor i k span n h) λ a n₁ h₁. said-pasteSlot i k a n₁ (h₁ .0) (h₁ .1)
-    said-slot (BinderSlot.BinderRef i) k span n h = good-done (h, said-gensym i k)
-
-    said-binder : (b : TypedBinder) → All (Known N K) (flatBinder b) → (span n : ℕ) → C n → Answers S M C flatBinder (substBinder maps b span n)
+    said-binder : (b : TypedBinder) → All (Known N M K) (flatBinder b) → (span n : ℕ) → C n → Answers S M C flatBinder (substBinder maps b span n)
     unfolding substBinder _>>=_ flatBinder
     said-binder b k span n h =
-        step (said-slot (b .slot) (all-head k .0) span n h) λ v n₁ h₁. good-done (h₁ .0, all-cons (h₁ .1) (own (all-tail k)))
+        step (said-slot (b .slot) (all-head k) span n h) λ v n₁ h₁. good-done (h₁ .0, all-cons (h₁ .1) (own (all-tail k)))
 
-    said-binders : (bs : List TypedBinder) → All (Known N K) (flatBinders bs) → (span n : ℕ) → C n
+    said-binders : (bs : List TypedBinder) → All (Known N M K) (flatBinders bs) → (span n : ℕ) → C n
         → Answers S M C flatBinders (substBinders maps bs span n)
     unfolding substBinders _>>=_ flatBinders
     said-binders [] k span n h = good-done (h, all-nil)
@@ -218,10 +212,10 @@ module _ {N M S : Text → Type 0} {K C : ℕ → Type 0} {limit : ℕ} (rules :
         step (said-binders bs (all-right (flatBinder b) k) span n₁ (h₁ .0)) λ vs n₂ h₂.
         good-done (h₂ .0, all-append (h₁ .1) (h₂ .1))
 
-    said-within : (w : WithinSpec) → N (flatWithin w .text) → (span n : ℕ) → C n → Spelt flatWithin (substWithin maps w span n)
+    said-within : (w : WithinSpec) → Known N M K (flatWithin w) → (span n : ℕ) → C n → Spelt flatWithin (substWithin maps w span n)
     unfolding substWithin _>>=_ flatWithin
-    said-within (WithinSpec.Concrete i) k span n h = good-done (h, rules .own-text _ k)
-    said-within (WithinSpec.ParamRef i) k span n h = step (said-argFor i k span n h) λ a n₁ h₁. said-pasteWithin span i k a n₁ (h₁ .0) (h₁ .1)
+    said-within (WithinSpec.Concrete i) k span n h = good-done (h, k .2)
+    said-within (WithinSpec.ParamRef i) k span n h = step (said-argFor i (k .0) span n h) λ a n₁ h₁. said-pasteWithin span i (k .0) a n₁ (h₁ .0) (h₁ .1)
 
     said-sigil : (span : ℕ) (g : Sigil) (name : Text) → N name → (n : ℕ) → C n → Answers S M C flatCondition (substSigilRef maps span g name n)
     unfolding substSigilRef _>>=_
@@ -231,77 +225,77 @@ module _ {N M S : Text → Type 0} {K C : ℕ → Type 0} {limit : ℕ} (rules :
     -- ------------------------------------------------------------------ the walk of the body
 
     mutual
-      unfolding substTemporalCondition _>>=_ flatCondition
+      unfolding substTemporalCondition gensymFor _>>=_ flatCondition
 
-      said-condition : (c : Condition) → All (Known N K) (flatCondition c) → (n : ℕ) → C n
+      said-condition : (c : Condition) → All (Known N M K) (flatCondition c) → (n : ℕ) → C n
           → Answers S M C flatCondition (substTemporalCondition maps c n)
       said-condition (Condition.SigilRef s g name) k n h = said-sigil s g name (all-head (all-tail k) .0) n h
       said-condition (Condition.And s l r) k n h =
           step (said-condition l (all-left (flatCondition l) _ (all-tail k)) n h) λ l′ n₁ h₁.
           step (said-condition r (all-right (flatCondition l) (all-tail k)) n₁ (h₁ .0)) λ r′ n₂ h₂.
-          good-done (h₂ .0, blank (all-append (h₁ .1) (h₂ .1)))
+          good-done (h₂ .0, all-cons (all-head k .2) (all-append (h₁ .1) (h₂ .1)))
       said-condition (Condition.Or s l r) k n h =
           step (said-condition l (all-left (flatCondition l) _ (all-tail k)) n h) λ l′ n₁ h₁.
           step (said-condition r (all-right (flatCondition l) (all-tail k)) n₁ (h₁ .0)) λ r′ n₂ h₂.
-          good-done (h₂ .0, blank (all-append (h₁ .1) (h₂ .1)))
-      said-condition (Condition.Not s c) k n h = step (said-condition c (all-tail k) n h) λ c′ n₁ h₁. good-done (h₁ .0, blank (h₁ .1))
+          good-done (h₂ .0, all-cons (all-head k .2) (all-append (h₁ .1) (h₂ .1)))
+      said-condition (Condition.Not s c) k n h = step (said-condition c (all-tail k) n h) λ c′ n₁ h₁. good-done (h₁ .0, all-cons (all-head k .2) (h₁ .1))
       said-condition (Condition.Formerly s w c) k n h =
-          step (said-within w (all-head (all-tail k) .0) s n h) λ w′ n₁ h₁.
+          step (said-within w (all-head (all-tail k)) s n h) λ w′ n₁ h₁.
           step (said-condition c (all-tail (all-tail k)) n₁ (h₁ .0)) λ c′ n₂ h₂.
-          good-done (h₂ .0, blank (all-cons (h₁ .1) (h₂ .1)))
+          good-done (h₂ .0, all-cons (all-head k .2) (all-cons (h₁ .1) (h₂ .1)))
       said-condition (Condition.Previous s w c) k n h =
-          step (said-within w (all-head (all-tail k) .0) s n h) λ w′ n₁ h₁.
+          step (said-within w (all-head (all-tail k)) s n h) λ w′ n₁ h₁.
           step (said-condition c (all-tail (all-tail k)) n₁ (h₁ .0)) λ c′ n₂ h₂.
-          good-done (h₂ .0, blank (all-cons (h₁ .1) (h₂ .1)))
+          good-done (h₂ .0, all-cons (all-head k .2) (all-cons (h₁ .1) (h₂ .1)))
       said-condition (Condition.Since s l w r) k n h =
           let right = all-right (flatCondition l) (all-tail k) in
-          step (said-within w (all-head right .0) s n h) λ w′ n₁ h₁.
+          step (said-within w (all-head right) s n h) λ w′ n₁ h₁.
           step (said-condition l (all-left (flatCondition l) _ (all-tail k)) n₁ (h₁ .0)) λ l′ n₂ h₂.
           step (said-condition r (all-tail right) n₂ (h₂ .0)) λ r′ n₃ h₃.
-          good-done (h₃ .0, blank (all-append (h₂ .1) (all-cons (h₁ .1) (h₃ .1))))
+          good-done (h₃ .0, all-cons (all-head k .2) (all-append (h₂ .1) (all-cons (h₁ .1) (h₃ .1))))
       said-condition (Condition.Predicate s o ns a e fs) k n h =
           step (said-fields fs (all-tail (all-tail (all-tail (all-right (flatTexts ns) (all-tail (all-tail (all-tail k))))))) s n h)
           λ fs′ n₁ h₁. good-done (h₁ .0, with-fields s o ns a e fs fs′ (own k) (h₁ .1))
       said-condition (Condition.Comparison s op l r) k n h =
           step (said-term l (all-left (flatTerm l) _ (all-tail (all-tail k))) s n h) λ l′ n₁ h₁.
           step (said-term r (all-right (flatTerm l) (all-tail (all-tail k))) s n₁ (h₁ .0)) λ r′ n₂ h₂.
-          good-done (h₂ .0, blank (blank (all-append (h₁ .1) (h₂ .1))))
+          good-done (h₂ .0, all-cons (all-head k .2) (all-cons (all-head (all-tail k) .2) (all-append (h₁ .1) (h₂ .1))))
       said-condition (Condition.Tp s v) k n h =
-          step (said-slot v (all-head (all-tail k) .0) s n h) λ v′ n₁ h₁. good-done (h₁ .0, blank (all-cons (h₁ .1) all-nil))
+          step (said-slot v (all-head (all-tail k)) s n h) λ v′ n₁ h₁. good-done (h₁ .0, all-cons (all-head k .2) (all-cons (h₁ .1) all-nil))
       said-condition (Condition.Exists s b c) k n h =
           step (said-binder b (all-left (flatBinder b) _ (all-tail k)) s n h) λ b′ n₁ h₁.
           step (said-condition c (all-right (flatBinder b) (all-tail k)) n₁ (h₁ .0)) λ c′ n₂ h₂.
-          good-done (h₂ .0, blank (all-append (h₁ .1) (h₂ .1)))
+          good-done (h₂ .0, all-cons (all-head k .2) (all-append (h₁ .1) (h₂ .1)))
       said-condition (Condition.Refine s o c fs) k n h =
           step (said-condition c (all-left (flatCondition c) _ (all-tail (all-tail k))) n h) λ c′ n₁ h₁.
           step (said-fields fs (all-tail (all-right (flatCondition c) (all-tail (all-tail k)))) s n₁ (h₁ .0)) λ fs′ n₂ h₂.
           said-refine c′ fs′ o n₂ (h₂ .0) (h₁ .1) (h₂ .1)
       said-condition (Condition.ConditionCall s c) k n h = good-refused ((rules .says-nothing, tt), h)
 
-      said-agg : (a : AggExpr) → All (Known N K) (flatAgg a) → (n : ℕ) → C n → Answers S M C flatAgg (substTemporalAgg maps a n)
+      said-agg : (a : AggExpr) → All (Known N M K) (flatAgg a) → (n : ℕ) → C n → Answers S M C flatAgg (substTemporalAgg maps a n)
       said-agg (AggExpr.Sum s v bs c) k n h =
           let rest = all-tail (all-tail (all-tail k)) in
-          step (said-slot v (all-head (all-tail k) .0) s n h) λ v′ n₁ h₁.
+          step (said-slot v (all-head (all-tail k)) s n h) λ v′ n₁ h₁.
           step (said-binders bs (all-left (flatBinders bs) _ rest) s n₁ (h₁ .0)) λ bs′ n₂ h₂.
           step (said-condition c (all-right (flatBinders bs) rest) n₂ (h₂ .0)) λ c′ n₃ h₃.
-          good-done (h₃ .0, blank (all-cons (h₁ .1) (blank (all-append (h₂ .1) (h₃ .1)))))
+          good-done (h₃ .0, all-cons (all-head k .2) (all-cons (h₁ .1) (all-cons (all-head (all-tail (all-tail k)) .2) (all-append (h₂ .1) (h₃ .1)))))
       said-agg (AggExpr.Count s bs c) k n h =
           let rest = all-tail (all-tail k) in
           step (said-binders bs (all-left (flatBinders bs) _ rest) s n h) λ bs′ n₁ h₁.
           step (said-condition c (all-right (flatBinders bs) rest) n₁ (h₁ .0)) λ c′ n₂ h₂.
-          good-done (h₂ .0, blank (blank (all-append (h₁ .1) (h₂ .1))))
+          good-done (h₂ .0, all-cons (all-head k .2) (all-cons (all-head (all-tail k) .2) (all-append (h₁ .1) (h₂ .1))))
       said-agg (AggExpr.AggCall s c) k n h = good-refused ((rules .says-nothing, tt), h)
 
-      said-term : (t : Term) → All (Known N K) (flatTerm t) → (s n : ℕ) → C n → Answers S M C flatTerm (substTemporalTerm maps t s n)
+      said-term : (t : Term) → All (Known N M K) (flatTerm t) → (s n : ℕ) → C n → Answers S M C flatTerm (substTemporalTerm maps t s n)
       said-term (Term.ParamRef i) k s n h =
           step (said-argFor i (all-head k .0) s n h) λ a n₁ h₁. said-pasteTerm s i (all-head k .0) a n₁ (h₁ .0) (h₁ .1)
-      said-term (Term.BinderRef i) k s n h = good-done (h, all-cons (said-gensym i (all-head k .0)) all-nil)
-      said-term (Term.Array ts) k s n h = step (said-terms ts (all-tail k) s n h) λ ts′ n₁ h₁. good-done (h₁ .0, blank (h₁ .1))
-      said-term (Term.Agg a) k s n h = step (said-agg a (all-tail k) n h) λ a′ n₁ h₁. good-done (h₁ .0, blank (h₁ .1))
+      said-term (Term.BinderRef i) k s n h = good-done (h, all-cons (rules .closed .made-term i (all-head k .0) (all-head k .2) (spanStart (maps .callSpan))) all-nil)
+      said-term (Term.Array ts) k s n h = step (said-terms ts (all-tail k) s n h) λ ts′ n₁ h₁. good-done (h₁ .0, all-cons (all-head k .2) (h₁ .1))
+      said-term (Term.Agg a) k s n h = step (said-agg a (all-tail k) n h) λ a′ n₁ h₁. good-done (h₁ .0, all-cons (all-head k .2) (h₁ .1))
       said-term (Term.Arith op l r) k s n h =
           step (said-term l (all-left (flatTerm l) _ (all-tail k)) s n h) λ l′ n₁ h₁.
           step (said-term r (all-right (flatTerm l) (all-tail k)) s n₁ (h₁ .0)) λ r′ n₂ h₂.
-          good-done (h₂ .0, blank (all-append (h₁ .1) (h₂ .1)))
+          good-done (h₂ .0, all-cons (all-head k .2) (all-append (h₁ .1) (h₂ .1)))
       said-term (Term.Entity ty id) k s n h = good-done (h, own k)
       said-term (Term.Integer i) k s n h = good-done (h, own k)
       said-term (Term.Decimal t) k s n h = good-done (h, own k)
@@ -312,25 +306,25 @@ module _ {N M S : Text → Type 0} {K C : ℕ → Type 0} {limit : ℕ} (rules :
       said-term (Term.Var i) k s n h = good-done (h, own k)
       said-term Term.Wildcard k s n h = good-done (h, own k)
 
-      said-terms : (ts : Terms) → All (Known N K) (flatTerms ts) → (s n : ℕ) → C n → Answers S M C flatTerms (substTemporalTerms maps ts s n)
+      said-terms : (ts : Terms) → All (Known N M K) (flatTerms ts) → (s n : ℕ) → C n → Answers S M C flatTerms (substTemporalTerms maps ts s n)
       said-terms Terms.noTerms k s n h = good-done (h, all-nil)
       said-terms (Terms.consTerm t ts) k s n h =
           step (said-term t (all-left (flatTerm t) _ k) s n h) λ t′ n₁ h₁.
           step (said-terms ts (all-right (flatTerm t) k) s n₁ (h₁ .0)) λ ts′ n₂ h₂.
           good-done (h₂ .0, all-append (h₁ .1) (h₂ .1))
 
-      said-fields : (fs : NamedArgs) → All (Known N K) (flatFields fs) → (s n : ℕ) → C n
+      said-fields : (fs : NamedArgs) → All (Known N M K) (flatFields fs) → (s n : ℕ) → C n
           → Answers S M C flatFields (substTemporalFields maps fs s n)
       said-fields NamedArgs.noFields k s n h = good-done (h, all-nil)
       said-fields (NamedArgs.consField i t fs) k s n h =
           step (said-term t (all-left (flatTerm t) _ (all-tail k)) s n h) λ t′ n₁ h₁.
           step (said-fields fs (all-right (flatTerm t) (all-tail k)) s n₁ (h₁ .0)) λ fs′ n₂ h₂.
-          good-done (h₂ .0, all-cons (rules .own-text i (all-head k .0)) (all-append (h₁ .1) (h₂ .1)))
+          good-done (h₂ .0, all-cons (all-head k .2) (all-append (h₁ .1) (h₂ .1)))
 
   -- ------------------------------------------------------------------ a definition and a call
 
-  module _ (def : MacroDef) (known : All (Known N K) (flatDef def)) where
-    pub said-substituteCondition : (c : Condition) → All (Known N K) (flatCondition c) → (call : Call) → Texts M (flatArgs (argsOf call))
+  module _ (def : MacroDef) (known : All (Known N M K) (flatDef def)) where
+    pub said-substituteCondition : (c : Condition) → All (Known N M K) (flatCondition c) → (call : Call) → Each M (flatArgs (argsOf call))
         → (n : ℕ) → C n → Fits S M C Tree.condition (substituteTemporalCondition c (mapsOf def limit call) n)
     unfolding substituteTemporalCondition mapsOf argsOf _>>=_ _>>_ flatTree
     said-substituteCondition c k (Call.MacroCall span name args) f n h =
@@ -338,7 +332,7 @@ module _ {N M S : Text → Type 0} {K C : ℕ → Type 0} {limit : ℕ} (rules :
         step (said-limits _ span n₁ (h₁ .0)) λ u n₂ h₂.
         good-done (h₂ .0, h₁ .1, h₂ .1)
 
-    pub said-substituteValue : (t : Term) → All (Known N K) (flatTerm t) → (call : Call) → Texts M (flatArgs (argsOf call))
+    pub said-substituteValue : (t : Term) → All (Known N M K) (flatTerm t) → (call : Call) → Each M (flatArgs (argsOf call))
         → (n : ℕ) → C n → Fits S M C Tree.term (substituteTemporalValue t (mapsOf def limit call) n)
     unfolding substituteTemporalValue mapsOf argsOf _>>=_ _>>_ flatTree
     said-substituteValue t k (Call.MacroCall span name args) f n h =
@@ -346,7 +340,7 @@ module _ {N M S : Text → Type 0} {K C : ℕ → Type 0} {limit : ℕ} (rules :
         step (said-limits _ span n₁ (h₁ .0)) λ u n₂ h₂.
         good-done (h₂ .0, h₁ .1, h₂ .1)
 
-    said-body : (body : MacroBody) → All (Known N K) (flatBody body) → (call : Call) → All (Known N K) (flatCall call) → (n : ℕ) → C n
+    said-body : (body : MacroBody) → All (Known N M K) (flatBody body) → (call : Call) → All (Known N M K) (flatCall call) → (n : ℕ) → C n
         → Fits S M C (λ t. t) (substituteBody limit def body call n)
     unfolding substituteBody flatBody flatCall argsOf _>>=_ _>>_
     said-body MacroBody.Cedar k (Call.MacroCall span name args) c n h =
@@ -362,6 +356,6 @@ module _ {N M S : Text → Type 0} {K C : ℕ → Type 0} {limit : ℕ} (rules :
         step (said-substituteValue body (all-tail k) (Call.MacroCall span name args) (own (all-tail (all-tail (all-tail c)))) n₂ h₂) λ t′ n₃ h₃.
         good-done h₃
 
-    pub said-substitute : (call : Call) → All (Known N K) (flatCall call) → Fits S M C (λ t. t) (substitute limit def call)
+    pub said-substitute : (call : Call) → All (Known N M K) (flatCall call) → Fits S M C (λ t. t) (substitute limit def call)
     unfolding substitute
     said-substitute call c = said-body (def .body) (def-body def known) call c 0 (rules .charged 0 (omega arith))

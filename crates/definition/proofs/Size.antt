@@ -10,7 +10,7 @@ use Rattle.format.specs.Flat.{flatTexts, flatUnit, flatInterval, flatWithin, fl
 use Rattle.format.specs.Limits.{isNode, weigh}
 use Rattle.definition.specs.Size.{size, nodesCondition, nodesTerm, nodesAgg, nodesCall, nodesArg, nodesArgs, nodesFields, nodesTerms}
 
-size-append : (es fs : List Entry) → size (es ++ fs) ≡ size es + size fs
+pub size-append : (es fs : List Entry) → size (es ++ fs) ≡ size es + size fs
 unfolding size
 size-append [] fs = omega arith
 size-append (e ∷ es) fs = omega (arith, size-append es fs)

@@ -7,14 +7,15 @@ use mathlib.Core.Bool.{Bool, true, false, not}
 use lib.Dec.{T, eqb, leb}
 use lib.ListN.{length, replicate}
 use lib.Seq.{take-at}
-use Rattle.format.specs.Entry.{Entry, encode}
+use Rattle.format.specs.Entry.{Text, Entry, encode}
 use Rattle.format.specs.Ast.{Tree, MacroParam, MacroDef}
 use Rattle.format.specs.Flat.{flatCondition, flatCall, flatTree, flatParams, flatDef, flatDefs, flatRegistry}
 use Rattle.format.specs.Utf8.{wellTexts, openUtf8}
 use Rattle.format.specs.Tape.{Reading, Root, conditionRoot, definitionRoot, callRoot, registryRoot, read, Bytes}
 use Rattle.format.proofs.All.{All, all-nil, all-cons, all-head, all-tail, all-left, all-right, all-map}
-use Rattle.format.proofs.Accepted.{accepted-on-tape}
+use Rattle.format.proofs.Accepted.{OnTape}
 use Rattle.format.proofs.Exact.{Lawful, lawful-condition, lawful-definition, lawful-call, lawful-registry}
+use Rattle.format.proofs.Rewritten.{Rewrites, rewrites-condition, rewrites-definition, rewrites-call, rewrites-registry, read-on-tape}
 use Rattle.format.proofs.Utf8.{all-whole, whole-all}
 use Rattle.definition.specs.Outcome.{Refusal, Outcome}
 use Rattle.definition.specs.Check.{Verdict, namesOf, checkDef}
@@ -23,27 +24,24 @@ use Rattle.definition.specs.Answers.{Buffers, padded, answer, numberAlon
 use Rattle.definition.specs.Whole.{WholeOutcome, whole-tree, whole-message, WholeVerdict, whole-pass, whole-refusal, CheckDefWhole, BuildWhole, SubstituteWhole, ExpandWhole, WholeAnswer, WholeMessage, CheckWhole, RegistryWhole, SubstituteTapesWhole, ExpandTapesWhole}
 use Rattle.definition.proofs.Good.{good-done, good-refused}
 use Rattle.definition.proofs.Verdicts.{Given, passes, refuses, given-body, given-build}
-use Rattle.definition.proofs.Rules.{Rules, Known, RefusalMatches, Fits}
+use Rattle.definition.proofs.Rules.{closed-texts, Rules, Any-number, Known, RefusalMatches, Fits}
 use Rattle.definition.proofs.SaidSubstitute.{def-name, def-body, said-substitute}
 use Rattle.definition.proofs.SaidExpand.{said-expand}
 use Rattle.definition.proofs.WholeMessages.{Well, well-gensym, well-reserved, well-duplicate, well-undeclared, well-plain, well-unknown, well-cedarInCondition, well-cedarInValue, well-valueAsCondition, well-conditionAsValue, well-count, well-strayCondition, well-strayWithin, well-straySlot, well-strayField, well-strayOperand, well-binderAsCondition, well-unbound, well-notACondition, well-notAnInterval, well-notATerm, well-notAnIdentifier, well-macroInMacro, well-budget, well-notAPredicate}
 
 -- ------------------------------------------------------------------ the rules
 
--- of a number nothing is asked
-abbrev Free : ℕ → Type 0
-Free n = Unit {0}
+abbrev WellText : ℕ → Text → Type 0
+WellText c t = Well t
 
 silent : Well []
 unfolding openUtf8
 silent = tt
 
-whole-rules : (limit : ℕ) → Rules Well Well Well Free Free limit
+whole-rules : (limit : ℕ) → Rules Well WellText Well Any-number Any-number limit
 whole-rules limit =
     record {
-      no-text = silent;
-      own-text = λ t k. k;
-      new-name = well-gensym;
+      closed = closed-texts well-gensym;
       charged = λ n h. tt;
       says-nothing = silent;
       says-30 = well-unknown;
@@ -68,10 +66,10 @@ whole-rules limit =
     }
 
 abbrev WholeEntry : Entry → Type 0
-WholeEntry e = Known Well Free e
+WholeEntry e = Known Well WellText Any-number e
 
 known : (es : List Entry) → T (wellTexts es) → All WholeEntry es
-known es h = all-map (λ e k. (k, tt)) (all-whole es h)
+known es h = all-map (λ e k. (k, tt, k)) (all-whole es h)
 
 abbrev WholeDef : MacroDef → Type 0
 WholeDef d = All WholeEntry (flatDef d)
@@ -112,7 +110,7 @@ whole-build ds h =
     given-build Well (record { reserved = λ n k s. (well-reserved n k, tt); duplicate = λ n k s p. (well-duplicate n k _, tt) }) ds
     (all-map (λ d k. def-name {P = WholeEntry} d k .0) h)
 
-whole-outcome : {o : Outcome Tree} → Fits Well Well Free (λ t. t) o → WholeOutcome o
+whole-outcome : {o : Outcome Tree} → Fits Well WellText Any-number (λ t. t) o → WholeOutcome o
 whole-outcome (good-done k) = whole-tree (whole-all (k .1))
 whole-outcome (good-refused k) = whole-message (k .0 .0)
 
@@ -138,9 +136,9 @@ expand-whole limit defs c d k =
 -- ------------------------------------------------------------------ on tapes
 
 -- the texts of an accepted tape
-accepted-texts : {A : Type 0} (root : Root A) → Lawful root → (bytes : List ℕ) → Bytes bytes → (a : A)
+accepted-texts : {A : Type 0} (root : Root A) → Rewrites root → Lawful root → (bytes : List ℕ) → Bytes bytes → (a : A)
     → read root bytes ≡ Reading.accepted a → T (wellTexts (root .flat a))
-accepted-texts root law bytes q a h = accepted-on-tape root (law .spells) bytes q a h .range .texts
+accepted-texts root rewrites law bytes q a h = read-on-tape root rewrites law bytes q a h .range .texts
 
 abbrev SaysWhole : {A : Type 0} → (A → List ℕ) → Buffers → Outcome A → Type 0
 SaysWhole tape b o = WholeMessage (answer tape b o)
@@ -189,7 +187,7 @@ check-whole m definition q =
     says-message m _
     (whole-reading (SaysWhole nothing (messageAlone m)) (read definitionRoot definition) _ (says-bare nothing (messageAlone m) 2)
     (says-bare nothing (messageAlone m) 3) λ def h.
-    says-verdict m (whole-check def (known (flatDef def) (accepted-texts definitionRoot lawful-definition definition q def h))))
+    says-verdict m (whole-check def (known (flatDef def) (accepted-texts definitionRoot rewrites-definition lawful-definition definition q def h))))
 
 pub registry-whole : RegistryWhole
 unfolding registryAnswer registryRoot
@@ -197,7 +195,7 @@ registry-whole m registry q =
     says-message m _
     (whole-reading (SaysWhole nothing (messageAlone m)) (read registryRoot registry) _ (says-bare nothing (messageAlone m) 2)
     (says-bare nothing (messageAlone m) 3) λ defs h.
-    says-verdict m (whole-build defs (known-registry defs (accepted-texts registryRoot lawful-registry registry q defs h))))
+    says-verdict m (whole-build defs (known-registry defs (accepted-texts registryRoot rewrites-registry lawful-registry registry q defs h))))
 
 -- ------------------------------------------------------------------ substitution and expansion
 
@@ -208,7 +206,7 @@ abbrev Answered : Buffers → Outcome Tree → Type 0
 Answered b o = WholeAnswer b (answer treeTape b o)
 
 abbrev WholeFits : Outcome Tree → Type 0
-WholeFits o = Fits Well Well Free (λ t. t) o
+WholeFits o = Fits Well WellText Any-number (λ t. t) o
 
 -- the answer of an outcome, once the buffers are long enough
 answer-whole : (b : Buffers) {o : Outcome Tree} → WholeFits o → WholeAnswer b (answer treeTape b o)
@@ -239,8 +237,8 @@ substitute-tapes-whole b limit definition input p q =
     tree-whole b _
     (whole-reading (Answered b) (read definitionRoot definition) _ (bare-whole b 2 tt) (bare-whole b 3 tt) λ def h.
     whole-reading (Answered b) (read callRoot input) _ (bare-whole b 2 tt) (bare-whole b 3 tt) λ call k.
-    let d = known (flatDef def) (accepted-texts definitionRoot lawful-definition definition p def h) in
-    let c = known (flatCall call) (accepted-texts callRoot lawful-call input q call k) in
+    let d = known (flatDef def) (accepted-texts definitionRoot rewrites-definition lawful-definition definition p def h) in
+    let c = known (flatCall call) (accepted-texts callRoot rewrites-call lawful-call input q call k) in
     answer-whole b (said-substitute (whole-rules limit) def d call c))
 
 pub expand-tapes-whole : ExpandTapesWhole
@@ -249,6 +247,6 @@ expand-tapes-whole b limit registry input p q =
     tree-whole b _
     (whole-reading (Answered b) (read registryRoot registry) _ (bare-whole b 2 tt) (bare-whole b 3 tt) λ defs h.
     whole-reading (Answered b) (read conditionRoot input) _ (bare-whole b 2 tt) (bare-whole b 3 tt) λ condition k.
-    let ds = known-registry defs (accepted-texts registryRoot lawful-registry registry p defs h) in
-    let c = known (flatCondition condition) (accepted-texts conditionRoot lawful-condition input q condition k) in
+    let ds = known-registry defs (accepted-texts registryRoot rewrites-registry lawful-registry registry p defs h) in
+    let c = known (flatCondition condition) (accepted-texts conditionRoot rewrites-condition lawful-condition input q condition k) in
     answer-whole b (said-expand defs limit (whole-rules limit) ds (whole-build defs ds) condition c))

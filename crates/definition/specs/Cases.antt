@@ -163,6 +163,15 @@ cases =
     ∷ refuses 100 43 0 0 1 (call "z" CallArgs.noArgs)
     ∷ []
 
+-- document 02, point 12: `P{} or P{}` at 5..6 comes out as the negation of the conjunction of the two negations
+unfoldable pub orCase : Case
+unfolding
+    span none-of P gives
+orCase =
+    gives 100 0 (Condition.Or (span 5 6) (P none-of) (P none-of))
+    (Condition.Not (span 5 6)
+    (Condition.And (span 5 6) (Condition.Not (span 5 6) (P none-of)) (Condition.Not (span 5 6) (P none-of))))
+
 -- what the definition answers to a case's input, as a case
 unfoldable pub answered : ℕ → Condition → Outcome Tree → Case
 unfolding refuses

@@ -12,4 +12,5 @@ pub mod Demand3
 pub mod Residue
 pub mod Kept
 pub mod Whole
+pub mod Withdrawn
 pub mod Cases

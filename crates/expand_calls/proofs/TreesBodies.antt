@@ -9,7 +9,7 @@ use lib.ListN.{length, getD}
 use Rattle.format.specs.Entry.{Text, Entry}
 use Rattle.format.specs.Ast.{Condition, Term, Call, CallArgs, Tree, MacroBody, MacroDef}
 use Rattle.format.specs.Flat.{lengthArgs, flatCondition, flatTerm, flatCall, flatTree, flatBody, flatDef, openFlat}
-use Rattle.format.specs.Limits.{isNode, deepBody, tooLargeTree}
+use Rattle.format.specs.Limits.{nodeWeight, deepBody, tooLargeTree}
 use Rattle.format.specs.Stands.{Stands}
 use Rattle.format.proofs.Stands.{stands-code}
 use Rattle.definition.specs.Outcome.{Walk as Walks, proceed, openOutcome}
@@ -83,7 +83,7 @@ pub record Kind {A : Type 0} (Also : List ℕ → A → Type 0) (flat : A → Li
   pub substitutes : (dm : MacroDef) (span : ℕ) (name : Text) (args : CallArgs) (limit : ℕ) (located : Name) (def call : List ℕ)
       (l c : Layout) (p q : Place) (h : Inside def l p (flatDef dm)) (g : Inside call c q (flatCall (Call.MacroCall span name args)))
       → lengthArgs args ≡ length (dm .params) → length (dm .params) ≤ 16 → (b : A) (k : ℕ) (P : Area)
-      → Inside def l (bodyStart dm h) (flatBody (body b)) → deepBody isNode (body b) ≤ 64 → Written P []
+      → Inside def l (bodyStart dm h) (flatBody (body b)) → deepBody nodeWeight (body b) ≤ 64 → Written P []
       → WalkMatches (T dm span name args limit located h g) flat P []
       (callIn def l call c limit (called dm h (body b)) (callHead dm span name args limit located h g)
       (first dm span name args limit located h g) k (P .out) (P .bytes))

@@ -11,7 +11,7 @@ use borrow.Author.Tests.{not-false}
 use Rattle.format.specs.Entry.{Text, Entry}
 use Rattle.format.specs.Ast.{Call, CallArgs, MacroBody, MacroDef}
 use Rattle.format.specs.Flat.{lengthArgs, flatCall, flatBody, flatDef}
-use Rattle.format.specs.Limits.{isNode, isCall, deepCall, deepBody, fitsAll, tooLargeCall}
+use Rattle.format.specs.Limits.{nodeWeight, callWeight, deepCall, deepBody, fitsAll, tooLargeCall}
 use Rattle.definition.specs.Outcome.{Refusal, Outcome, Walk as Walks, proceed, openOutcome}
 use Rattle.definition.specs.Substitute.{SubstMaps, mapsOf, chargeBody, checkLimits}
 use Rattle.tape.specs.Pick.{pick}
@@ -66,7 +66,7 @@ module _ (R : Reads) {A : Type 0} {Also : List ℕ → A → Type 0} {flat : A �
     checked args k = proceed (checkLimits (tooLargeCall (Call.MacroCall span name args)) span k) (λ u. substituted args)
 
     module _ {d : Place} (h : Inside (R .registry) (R .definitions) d (flatDef dm)) (few : length (dm .params) ≤ 16)
-        (stands : Inside (R .registry) (R .definitions) (bodyStart dm h) (flatBody (body b))) (deep : deepBody isNode (body b) ≤ 64)
+        (stands : Inside (R .registry) (R .definitions) (bodyStart dm h) (flatBody (body b))) (deep : deepBody nodeWeight (body b) ≤ 64)
         (located : Name) (sized : located .size ≡ length name) (count : ℕ) (same : count ≡ length (dm .params)) where
       abbrev pub head : Heading
       head = record { span = span; name = located; count = count }
@@ -84,7 +84,7 @@ module _ (R : Reads) {A : Type 0} {Also : List ℕ → A → Type 0} {flat : A �
           let c : Call = Call.MacroCall span name args in
           let fits : fitsArea (flatCall c) ≡ true =
           is-true (and-left (fitsArea (flatCall c)) _
-          (from-true (not-false (fitsAll (flatCall c) (deepCall isNode c) (deepCall isCall c)) small))) in
+          (from-true (not-false (fitsAll (flatCall c) (deepCall nodeWeight c) (deepCall callWeight c)) small))) in
           let area : Layout = areaLayout (Q .out .base) (Q .out .n) (Q .out .t) in
           let g : Inside (Q .bytes) area (place 0 0) (flatCall c) = written-inside q fits (passes-call c .texted) in
           let at : Heading → Place → one.Progress =

@@ -1,6 +1,7 @@
 -- The macro that a call names: where a registry stands, the code finds the definition that `Registry::get` finds.
 -- Assumes nothing.
 use Prim.Native.Nat.{ℕ, _≤_}
+use native.Mathlib.Omega.{arith}
 use mathlib.Core.Path.{_≡_, refl}
 use mathlib.Core.List.{List, [], _∷_}
 use mathlib.Core.Bool.{Bool, true, false}
@@ -10,9 +11,9 @@ use lib.ListN.{length}
 use Rattle.format.specs.Entry.{Text, entry}
 use Rattle.format.specs.Ast.{Condition, Call, MacroBody, MacroDef}
 use Rattle.format.specs.Flat.{flatCondition, flatCall, flatDef, openFlat}
-use Rattle.format.specs.Limits.{isNode, deepBody}
-use Rattle.format.specs.Tape.{smallBody, smallBodies, registryRoot}
-use Rattle.format.proofs.All.{All, all-nil, all-cons, all-head, all-tail, all-map}
+use Rattle.format.specs.Limits.{nodeWeight, callWeight, deepBody, deepBodies}
+use Rattle.format.specs.Tape.{fewParams, fewParamsEach, registryRoot}
+use Rattle.format.proofs.All.{All, all-nil, all-cons, all-head, all-tail}
 use Rattle.definition.specs.Text.{eqText}
 use Rattle.definition.specs.Registry.{get}
 use Rattle.definition.specs.Expand.{Registry, isValueBody, callsValue}
@@ -20,10 +21,10 @@ use Rattle.tape.specs.Pick.{pick}
 use Rattle.nodes.specs.Node.{nameAt}
 use Rattle.tape.specs.declared.layout.Place.{Place}
 use Rattle.nodes.specs.declared.Heading.{Heading}
-use Rattle.tape.proofs.Located.{Inside, inside-next}
+use Rattle.tape.proofs.Located.{Inside, inside-next, Alone}
 use Rattle.nodes.proofs.Entries.{is-expected}
 use Rattle.nodes.proofs.Placed.{parts-call, parts-def}
-use Rattle.tape.proofs.Roots.{Accepted, few-params as few-params-of, small-nesting}
+use Rattle.tape.proofs.Roots.{few-params as few-params-of, nesting-64}
 use Rattle.format.proofs.Tests.{and-left, and-right}
 use Rattle.registry.specs.Places.{Row, keyOf, endOf, getAt}
 use Rattle.registry.specs.declared.Found.{Found}
@@ -42,26 +43,30 @@ pub record Settled (R : Reads) (reg : Registry) : Type 0 where
   pub ended : Ended (R .registry) (R .definitions) (R .places) (reg .defs)
   pub its-limit : R .limit ≡ reg .limit
   pub few-params : All (λ (d : MacroDef). length (d .params) ≤ 16) (reg .defs)
-  pub shallow : All (λ (d : MacroDef). deepBody isNode (d .body) ≤ 64) (reg .defs)
+  pub shallow : All (λ (d : MacroDef). deepBody nodeWeight (d .body) ≤ 64) (reg .defs)
 
--- an accepted registry is within them
-each-small : (ds : List MacroDef) → T (smallBodies ds) → All (λ (d : MacroDef). T (smallBody d)) ds
-unfolding smallBodies
-each-small [] t = all-nil
-each-small (d ∷ ds) t = all-cons (and-left (smallBody d) (smallBodies ds) t) (each-small ds (and-right (smallBody d) (smallBodies ds) t))
+-- a registry that keeps to them, and so each of its definitions
+each-few : (ds : List MacroDef) → T (fewParamsEach ds) → All (λ (d : MacroDef). length (d .params) ≤ 16) ds
+unfolding fewParamsEach
+each-few [] t = all-nil
+each-few (d ∷ ds) t = all-cons (few-params-of d (and-left (fewParams d) (fewParamsEach ds) t)) (each-few ds (and-right (fewParams d) (fewParamsEach ds) t))
 
-pub settled-of : {R : Reads} {reg : Registry} → Accepted registryRoot (R .registry) (R .definitions) (reg .defs)
+each-shallow : (ds : List MacroDef) → deepBodies nodeWeight ds ≤ 64 → All (λ (d : MacroDef). deepBody nodeWeight (d .body) ≤ 64) ds
+unfolding deepBodies
+each-shallow [] h = all-nil
+each-shallow (d ∷ ds) h = all-cons {a = d} (omega arith) (each-shallow ds (omega arith))
+
+pub settled-of : {R : Reads} {reg : Registry} → Alone registryRoot (R .registry) (R .definitions) (reg .defs)
     → Indexed (R .registry) (R .definitions) (R .places) (reg .defs) → Ended (R .registry) (R .definitions) (R .places) (reg .defs)
     → R .limit ≡ reg .limit → Settled R reg
 unfolding registryRoot
 settled-of {reg = reg} h indexed ended limit =
-    let small = each-small (reg .defs) (h .small) in
     record {
       indexed = indexed;
       ended = ended;
       its-limit = limit;
-      few-params = all-map few-params-of small;
-      shallow = all-map small-nesting small;
+      few-params = each-few (reg .defs) (h .few);
+      shallow = each-shallow (reg .defs) (nesting-64 (deepBodies nodeWeight (reg .defs)) (deepBodies callWeight (reg .defs)) (h .depths));
     }
 
 module _ (R : Reads) where
@@ -69,7 +74,7 @@ module _ (R : Reads) where
   pub data Resolved : MacroRead → Option MacroDef → Type 0 where
     unresolved : Resolved macro.Nothing none
     resolved : (d : MacroDef) {p : Place} (h : Inside (R .registry) (R .definitions) p (flatDef d)) → length (d .params) ≤ 16
-        → deepBody isNode (d .body) ≤ 64 → Resolved (macro.Macro (called d h (d .body))) (some d)
+        → deepBody nodeWeight (d .body) ≤ 64 → Resolved (macro.Macro (called d h (d .body))) (some d)
 
   -- the macro that was found
   abbrev macroOf : Found → MacroRead
@@ -79,7 +84,7 @@ module _ (R : Reads) where
   Looked rs ds name = Resolved (macroOf (getAt (R .registry) (R .definitions) rs name)) (get ds name)
 
   found-resolves : {rs : List Row} {ds : List MacroDef} → Indexed (R .registry) (R .definitions) rs ds → Ended (R .registry) (R .definitions) rs ds
-      → All (λ (d : MacroDef). length (d .params) ≤ 16) ds → All (λ (d : MacroDef). deepBody isNode (d .body) ≤ 64) ds → (name : Text)
+      → All (λ (d : MacroDef). length (d .params) ≤ 16) ds → All (λ (d : MacroDef). deepBody nodeWeight (d .body) ≤ 64) ds → (name : Text)
       → Looked rs ds name
   unfolding getAt get
   found-resolves indexed-nil ended-nil few deep name = unresolved

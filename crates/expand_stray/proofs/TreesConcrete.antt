@@ -8,7 +8,7 @@ use lib.ListN.{length}
 use Rattle.format.specs.Entry.{Text}
 use Rattle.format.specs.Ast.{WithinSpec, BinderSlot, TypedBinder, Sigil, Term, NamedArgs, Terms}
 use Rattle.format.specs.Flat.{flatWithin, flatSlot, flatType, flatBinders, lengthTerms, lengthFields, flatTerm, flatFields, flatTerms}
-use Rattle.format.specs.Limits.{isNode, weigh, deepCondition, deepTerm, deepFields, deepTerms}
+use Rattle.format.specs.Limits.{isNode, nodeWeight, weigh, deepCondition, deepTerm, deepFields, deepTerms}
 use Rattle.format.proofs.Deep.{deep-term}
 use Rattle.definition.specs.Messages.{strayWithin, straySlot, strayField}
 use Rattle.definition.specs.Outcome.{Refusal, refusal, Outcome, Walk, proceed, _>>=_, _>>_}
@@ -149,11 +149,11 @@ module _ (s : List ℕ) (d : Layout) (t : List ℕ) (c : Layout) (span k : ℕ) 
   -- f is right about terms that are at most n deep
   abbrev Right : (Checked → Checked) → ℕ → Type 0
   Right f n =
-      (u : Term) (p : Place) → Inside t c p (flatTerm u) → deepTerm isNode u ≤ n
+      (u : Term) (p : Place) → Inside t c p (flatTerm u) → deepTerm nodeWeight u ≤ n
       → StrayMatches s d t c k (f (Passed p)) (past (flatTerm u) p) (checkConcreteTerm u span k)
 
   module _ (f : Checked → Checked) (n : ℕ) (R : Right f n) where
-    each-term : (us : Terms) {p : Place} → Inside t c p (flatTerms us) → deepTerms isNode us ≤ n
+    each-term : (us : Terms) {p : Place} → Inside t c p (flatTerms us) → deepTerms nodeWeight us ≤ n
         → StrayMatches s d t c k (itemsIn f (lengthTerms us) (Passed p)) (past (flatTerms us) p) (checkConcreteTerms us span k)
     unfolding itemsIn checkConcreteTerm _>>_ _>>=_ deepCondition lengthTerms
     each-term Terms.noTerms h m = ending (parts-terms Terms.noTerms h) (passes refl)
@@ -163,7 +163,7 @@ module _ (s : List ℕ) (d : Layout) (t : List ℕ) (c : Layout) (span k : ℕ) 
         (chain (itemsIn f (lengthTerms us)) (strict-items f (lengthTerms us)) (checkConcreteTerms us span) (R u p (runs .first) (omega arith))
         (each-term us (runs .second) (omega arith)))
 
-    term-right : (u : Term) {p : Place} → Inside t c p (flatTerm u) → deepTerm isNode u ≤ suc n
+    term-right : (u : Term) {p : Place} → Inside t c p (flatTerm u) → deepTerm nodeWeight u ≤ suc n
         → StrayMatches s d t c k (onConcreteTerm t c f span p (termAt t c p)) (past (flatTerm u) p) (checkConcreteTerm u span k)
     unfolding checkConcreteTerm deepCondition isNode weigh concreteNodeIn passedIn messageOf
     term-right (Term.Entity ty id) h m = rw (parts-term (Term.Entity ty id) h) (passes refl)
@@ -190,7 +190,7 @@ module _ (s : List ℕ) (d : Layout) (t : List ℕ) (c : Layout) (span k : ℕ) 
         rw (i .read) (stray span (StrayField sigil.Binder (i .name)) (ap (strayField Sigil.Binder) (i .spelled)))
 
 module _ {s : List ℕ} {d : Layout} {t : List ℕ} {c : Layout} where
-  term-concrete : (u : Term) (n span k : ℕ) {p : Place} → Inside t c p (flatTerm u) → deepTerm isNode u ≤ n
+  term-concrete : (u : Term) (n span k : ℕ) {p : Place} → Inside t c p (flatTerm u) → deepTerm nodeWeight u ≤ n
       → StrayMatches s d t c k (concreteTermIn t c n span (Passed p)) (past (flatTerm u) p) (checkConcreteTerm u span k)
   unfolding concreteTermIn
   term-concrete u zero span k h m = absurd (deep-term u m)
@@ -199,7 +199,7 @@ module _ {s : List ℕ} {d : Layout} {t : List ℕ} {c : Layout} where
 
   -- ------------------------------------------------------------------ fields
 
-  each-field : (fs : NamedArgs) (n span k : ℕ) {p : Place} → Inside t c p (flatFields fs) → deepFields isNode fs ≤ n
+  each-field : (fs : NamedArgs) (n span k : ℕ) {p : Place} → Inside t c p (flatFields fs) → deepFields nodeWeight fs ≤ n
       → StrayMatches s d t c k (itemsIn (concreteFieldIn t c n span) (lengthFields fs) (Passed p)) (past (flatFields fs) p) (checkConcreteFields fs span k)
   unfolding itemsIn checkConcreteFields _>>_ _>>=_ deepCondition lengthFields pastNameIn
   each-field NamedArgs.noFields n span k h m = ending (parts-fields NamedArgs.noFields h) (passes refl)
@@ -212,7 +212,7 @@ module _ {s : List ℕ} {d : Layout} {t : List ℕ} {c : Layout} where
       (each-field fs n span k (i .runs .second) (omega arith)))
 
   -- the list with its count
-  pub fields-concrete : (fs : NamedArgs) (n span k : ℕ) {p : Place} → Inside t c p (fieldList fs) → deepFields isNode fs ≤ n
+  pub fields-concrete : (fs : NamedArgs) (n span k : ℕ) {p : Place} → Inside t c p (fieldList fs) → deepFields nodeWeight fs ≤ n
       → StrayMatches s d t c k (concreteFieldsIn t c n span (Passed p)) (past (fieldList fs) p) (checkConcreteFields fs span k)
   unfolding concreteFieldsIn
   fields-concrete fs n span k h m =

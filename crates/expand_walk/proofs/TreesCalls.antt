@@ -12,7 +12,7 @@ use borrow.Author.Tests.{eqb-true}
 use Rattle.format.specs.Entry.{Text, Entry, entry, textEntry}
 use Rattle.format.specs.Ast.{Call, CallArgs, MacroBody, MacroDef}
 use Rattle.format.specs.Flat.{lengthArgs, flatCondition, flatTerm, flatArgs, flatCall, flatBody, flatDef, openFlat}
-use Rattle.format.specs.Limits.{isNode, isCall, deepArgs, deepCall, deepBody, openLimits}
+use Rattle.format.specs.Limits.{nodeWeight, callWeight, deepArgs, deepCall, deepBody, openLimits}
 use Rattle.definition.specs.Messages.{unknownMacro, cedarInCondition, cedarInValue, valueAsCondition, conditionAsValue}
 use Rattle.definition.specs.Registry.{get}
 use Rattle.definition.specs.Outcome.{Refusal, Outcome, Walk as Walks, pure, refuse, proceed, openOutcome}
@@ -69,7 +69,7 @@ module _ (R : Reads) (reg : Registry) (W : Walkers) where
   abbrev pub ArgsRight : CallArgs → Type 0
   ArgsRight args =
       (P : Area) (es : List Entry) (result : List ℕ) (p : Place) (k : ℕ) → Inside (R .condition) (R .layout) p (flatArgs args)
-      → Room P (deepArgs isCall args) → Ready result → Written P es
+      → Room P (deepArgs callWeight args) → Ready result → Written P es
       → WalkMatches R Nothing flatArgs P es (itemsIn (argIn R W) (lengthArgs args) (going p k P result)) (past (flatArgs args) p)
       (expandTemporalCallArgs reg args k)
 
@@ -123,7 +123,7 @@ module _ {R : Reads} {reg : Registry} (S : Settled R reg) (W : Walkers) {A : Typ
       proceed (checkArity dm (lengthArgs args) span k)
       (λ u k₁. proceed (expandTemporalCallArgs reg args k₁) (checked R K span name limit dm b))
 
-  module _ {P : Area} {es : List Entry} (result : List ℕ) (k : ℕ) (room : Room P (deepCall isCall (Call.MacroCall span name args)))
+  module _ {P : Area} {es : List Entry} (result : List ℕ) (k : ℕ) (room : Room P (deepCall callWeight (Call.MacroCall span name args)))
       (ready : Ready result) (w : Written P es) where
     -- the next level, with nothing in it, and with the call's own entries
     abbrev next : Area
@@ -135,7 +135,7 @@ module _ {R : Reads} {reg : Registry} (S : Settled R reg) (W : Walkers) {A : Typ
     lifted : above (P .out) .base ≡ P .out .base + 12288
     lifted = ap (λ (out : Writer). out .base) (above-is (P .out) (omega (arith, room .0)))
 
-    deeper : deepCall isCall (Call.MacroCall span name args) ≡ 1 + deepArgs isCall args
+    deeper : deepCall callWeight (Call.MacroCall span name args) ≡ 1 + deepArgs callWeight args
     unfolding openLimits
     deeper = refl
 
@@ -149,11 +149,11 @@ module _ {R : Reads} {reg : Registry} (S : Settled R reg) (W : Walkers) {A : Typ
         (written-none (P .out .base + 12288) (P .bytes) (omega (arith, room .0, room .1, deeper)) (omega (arith, room .0, deeper))) in
         copied-written (parts-call span name args i .parts .head) nothing
 
-    args-room : Room begun (deepArgs isCall args)
+    args-room : Room begun (deepArgs callWeight args)
     args-room = (omega (arith, began .base, lifted, room .0, deeper), omega (arith, began .size, room .1))
 
     module _ (dm : MacroDef) {d : Place} (h : Inside (R .registry) (R .definitions) d (flatDef dm)) (few : length (dm .params) ≤ 16) (b : A)
-        (stands : Inside (R .registry) (R .definitions) (bodyStart dm h) (flatBody (body b))) (deep : deepBody isNode (body b) ≤ 64) where
+        (stands : Inside (R .registry) (R .definitions) (bodyStart dm h) (flatBody (body b))) (deep : deepBody nodeWeight (body b) ≤ 64) where
       expanded : lengthArgs args ≡ length (dm .params) → {X : Progress} (o : Outcome CallArgs) → expandTemporalCallArgs reg args k ≡ o
           → WalkMatches R Nothing flatArgs begun own X end o
           → WalkMatches R Also flat P es
@@ -196,7 +196,7 @@ module _ {R : Reads} {reg : Registry} (S : Settled R reg) (W : Walkers) {A : Typ
         (choice : (m : MacroBody) → Chosen R body m (λ def. onKind def (kindOf m)) (bodyOf m)) where
       by-choice : (dm : MacroDef) {d : Place} (h : Inside (R .registry) (R .definitions) d (flatDef dm)) → length (dm .params) ≤ 16
           → (m : MacroBody) {c : Macro → Callee} {g : Walks A} → Chosen R body m c g
-          → Inside (R .registry) (R .definitions) (bodyStart dm h) (flatBody m) → deepBody isNode m ≤ 64
+          → Inside (R .registry) (R .definitions) (bodyStart dm h) (flatBody m) → deepBody nodeWeight m ≤ 64
           → WalkMatches R Also flat P es
           (onCallee R W itsHead (state q (P .out) k) p (past own p) (P .bytes) result (c (called dm h m))) end
           (proceed (g k) (rest (R .limit) dm))
@@ -252,7 +252,7 @@ module _ {R : Reads} {reg : Registry} (S : Settled R reg) (W : Walkers) (span : 
   value-choice (MacroBody.TemporalValue t) = chosen t
 
   module _ (right : ArgsRight R reg W args) {P : Area} {es : List Entry} (result : List ℕ) (q : Place) (k : ℕ)
-      (room : Room P (deepCall isCall (Call.MacroCall span name args))) (ready : Ready result) (w : Written P es) where
+      (room : Room P (deepCall callWeight (Call.MacroCall span name args))) (ready : Ready result) (w : Written P es) where
     pub condition-call : WalkMatches R Rooted flatCondition P es (toConditionIn R W (state q (P .out) k) p (P .bytes) result)
         (past (flatCall (Call.MacroCall span name args)) p) (expandTemporalCallToCondition reg (Call.MacroCall span name args) k)
     unfolding toConditionIn conditionMacroIn expandTemporalCondition resolve openOutcome

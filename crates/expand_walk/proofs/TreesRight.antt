@@ -23,7 +23,7 @@ use Rattle.format.specs.Flat.{
   flatArgs,
 }
 use Rattle.format.proofs.Deep.{deep-condition, deep-term, deep-agg}
-use Rattle.format.specs.Limits.{isNode, isCall, weigh, deepCondition, deepTerm, deepAgg, deepCall, deepArg, deepArgs}
+use Rattle.format.specs.Limits.{isNode, nodeWeight, isCall, callWeight, weigh, deepCondition, deepTerm, deepAgg, deepCall, deepArg, deepArgs}
 use Rattle.definition.specs.Outcome.{refusal, Outcome, Walk as Walks, pure, proceed, _>>=_, openOutcome}
 use Rattle.definition.specs.Messages.{strayCondition, strayOperand}
 use Rattle.definition.specs.Expand.{
@@ -166,7 +166,7 @@ module _ {R : Reads} {reg : Registry} (S : Settled R reg) where
   stray-operand Sigil.Binder name e = record { its-number = refl; its-span = refl; its-message = ap (strayOperand Sigil.Binder) e }
 
   -- past a tree
-  passed-all : {p : Place} {es : List Entry} {sort : ℕ} {d : (ℕ → Bool) → ℕ} {x : Bool} → At R p es → Passes (sort ∷ []) es d x → sort < 32
+  passed-all : {p : Place} {es : List Entry} {sort : ℕ} {d : (ℕ → ℕ) → ℕ} {x : Bool} → At R p es → Passes (sort ∷ []) es d x → sort < 32
       → pastAll R p sort ≡ Passed (past es p)
   unfolding passedIn
   passed-all h b m = rw (inside-skip h b m) refl
@@ -174,19 +174,19 @@ module _ {R : Reads} {reg : Registry} (S : Settled R reg) where
   -- the walkers are right about trees that are at most n deep
   pub record Right (W : Walkers) (n : ℕ) : Type 0 where
     pub condition : (c : Condition) (k : ℕ) {p : Place} {P : Area} {es : List Entry} {result : List ℕ} → At R p (flatCondition c)
-        → deepCondition isNode c ≤ n → Room P (deepCondition isCall c) → Ready result → Written P es
+        → deepCondition nodeWeight c ≤ n → Room P (deepCondition callWeight c) → Ready result → Written P es
         → WalkMatches R (Shaped p) flatCondition P es (W .condition (going p k P result)) (past (flatCondition c) p)
         (expandTemporalCondition reg c k)
     pub operand : (t : Term) (k : ℕ) {p : Place} {P : Area} {es : List Entry} {result : List ℕ} → At R p (flatTerm t)
-        → deepTerm isNode t ≤ n → Room P (deepTerm isCall t) → Ready result → Written P es
+        → deepTerm nodeWeight t ≤ n → Room P (deepTerm callWeight t) → Ready result → Written P es
         → WalkMatches R Nothing flatTerm P es (W .operand (going p k P result)) (past (flatTerm t) p) (expandTemporalOperand reg t k)
     pub agg : (a : AggExpr) (k : ℕ) {p : Place} {P : Area} {es : List Entry} {result : List ℕ} → At R p (flatTerm (Term.Agg a))
-        → deepAgg isNode a ≤ n → Room P (deepAgg isCall a) → Ready result → Written P es
+        → deepAgg nodeWeight a ≤ n → Room P (deepAgg callWeight a) → Ready result → Written P es
         → WalkMatches R Nothing flatTerm P es (W .agg (state p (P .out) k) (past (entry 30 0 ∷ []) p) (P .bytes) result)
         (past (flatTerm (Term.Agg a)) p) (expandAggOperand reg a (expandTemporalAgg reg a) k)
     pub valueArg : (s : ℕ) (c : Call) (k : ℕ) {p q : Place} {P : Area} {es : List Entry} {result : List ℕ}
-        → At R p (flatCondition (Condition.ConditionCall s c)) → deepCondition isNode (Condition.ConditionCall s c) ≤ n
-        → Room P (deepCall isCall c) → Ready result → Written P es
+        → At R p (flatCondition (Condition.ConditionCall s c)) → deepCondition nodeWeight (Condition.ConditionCall s c) ≤ n
+        → Room P (deepCall callWeight c) → Ready result → Written P es
         → WalkMatches R Nothing flatArg P es (W .valueArg (state q (P .out) k) p (P .bytes) result) (past (flatCondition (Condition.ConditionCall s c)) p)
         (asTermArg (expandTemporalCallToValue reg c) k)
     pub fields : (span : ℕ) → W .fields span ≡ concreteFieldsIn (R .condition) (R .layout) n span
@@ -198,7 +198,7 @@ module _ {R : Reads} {reg : Registry} (S : Settled R reg) where
 
     -- a condition stays one
     cond-arg : (c : Condition) (k : ℕ) (result : List ℕ) {p : Place} {P : Area} {es : List Entry}
-        → At R p (flatArg (CallArg.ConditionArg c)) → deepCondition isNode c ≤ n → Room P (deepCondition isCall c) → Ready result → Written P es
+        → At R p (flatArg (CallArg.ConditionArg c)) → deepCondition nodeWeight c ≤ n → Room P (deepCondition callWeight c) → Ready result → Written P es
         → WalkMatches R Nothing flatArg P es (innerIn R W (state p (P .out) k) (Passed (past (entry 55 0 ∷ []) p)) (P .bytes) result)
         (past (flatArg (CallArg.ConditionArg c)) p) (asConditionArg (expandTemporalCondition reg c) k)
     unfolding innerIn asConditionArg openOutcome flatCondition
@@ -211,7 +211,7 @@ module _ {R : Reads} {reg : Registry} (S : Settled R reg) where
 
     -- a term
     term-arg : (t : Term) (k : ℕ) (result : List ℕ) {p : Place} {P : Area} {es : List Entry} → At R p (flatArg (CallArg.TermArg t))
-        → deepTerm isNode t ≤ n → Room P (deepTerm isCall t) → Ready result → Written P es
+        → deepTerm nodeWeight t ≤ n → Room P (deepTerm callWeight t) → Ready result → Written P es
         → WalkMatches R Nothing flatArg P es (W .operand (ownCopied R (state p (P .out) k) (Passed (past (entry 56 0 ∷ []) p)) (P .bytes) result))
         (past (flatArg (CallArg.TermArg t)) p) (asTermArg (expandTemporalOperand reg t) k)
     unfolding asTermArg openOutcome flatCondition
@@ -224,8 +224,8 @@ module _ {R : Reads} {reg : Registry} (S : Settled R reg) where
 
     -- "An argument that is a bare call of a value macro becomes a term."
     call-arg : (s : ℕ) (c : Call) (k : ℕ) (result : List ℕ) {p : Place} {P : Area} {es : List Entry}
-        → At R p (flatArg (CallArg.ConditionArg (Condition.ConditionCall s c))) → deepCondition isNode (Condition.ConditionCall s c) ≤ n
-        → Room P (deepCondition isCall (Condition.ConditionCall s c)) → Ready result → Written P es → (b : Bool)
+        → At R p (flatArg (CallArg.ConditionArg (Condition.ConditionCall s c))) → deepCondition nodeWeight (Condition.ConditionCall s c) ≤ n
+        → Room P (deepCondition callWeight (Condition.ConditionCall s c)) → Ready result → Written P es → (b : Bool)
         → WalkMatches R Nothing flatArg P es
         (pick b (W .valueArg (state p (P .out) k) (past (entry 55 0 ∷ []) p) (P .bytes) result)
         (innerIn R W (state p (P .out) k) (Passed (past (entry 55 0 ∷ []) p)) (P .bytes) result))
@@ -240,7 +240,7 @@ module _ {R : Reads} {reg : Registry} (S : Settled R reg) where
     -- no other condition is a bare call
     other-arg : (c : Condition) (k : ℕ) (result : List ℕ) {e : Entry} {fs : List Entry} {p : Place} {P : Area} {es : List Entry}
         → flatCondition c ≡ e ∷ fs → eqb (e .code) 11 ≡ false
-        → At R p (flatArg (CallArg.ConditionArg c)) → deepCondition isNode c ≤ n → Room P (deepCondition isCall c) → Ready result → Written P es
+        → At R p (flatArg (CallArg.ConditionArg c)) → deepCondition nodeWeight c ≤ n → Room P (deepCondition callWeight c) → Ready result → Written P es
         → WalkMatches R Nothing flatArg P es (conditionArgIn R W (state p (P .out) k) (past (entry 55 0 ∷ []) p) (P .bytes) result)
         (past (flatArg (CallArg.ConditionArg c)) p) (asConditionArg (expandTemporalCondition reg c) k)
     unfolding conditionArgIn callsValueIn expectAt
@@ -250,7 +250,7 @@ module _ {R : Reads} {reg : Registry} (S : Settled R reg) where
         rw (is-entry first, other) (cond-arg c k result h d room ready w)
 
     arg-right : (a : CallArg) (k : ℕ) (result : List ℕ) {p : Place} {P : Area} {es : List Entry} → At R p (flatArg a)
-        → deepArg isNode a ≤ n → Room P (deepArg isCall a) → Ready result → Written P es
+        → deepArg nodeWeight a ≤ n → Room P (deepArg callWeight a) → Ready result → Written P es
         → WalkMatches R Nothing flatArg P es (argIn R W (going p k P result)) (past (flatArg a) p) (expandTemporalCallArg reg a k)
     unfolding argIn conditionArgIn expandTemporalCondition openOutcome deepCondition flatCondition
     arg-right (CallArg.TermArg t) k result h d room ready w =
@@ -262,7 +262,7 @@ module _ {R : Reads} {reg : Registry} (S : Settled R reg) where
         rw (parts-arg (CallArg.ConditionArg c) h .read) (go c k result h d room ready w)
       where
         go : (c : Condition) (k : ℕ) (result : List ℕ) {p : Place} {P : Area} {es : List Entry}
-            → At R p (flatArg (CallArg.ConditionArg c)) → deepCondition isNode c ≤ n → Room P (deepCondition isCall c) → Ready result
+            → At R p (flatArg (CallArg.ConditionArg c)) → deepCondition nodeWeight c ≤ n → Room P (deepCondition callWeight c) → Ready result
             → Written P es
             → WalkMatches R Nothing flatArg P es (conditionArgIn R W (state p (P .out) k) (past (entry 55 0 ∷ []) p) (P .bytes) result)
             (past (flatArg (CallArg.ConditionArg c)) p) (expandConditionArg reg c (expandTemporalCondition reg c) k)
@@ -283,7 +283,7 @@ module _ {R : Reads} {reg : Registry} (S : Settled R reg) where
             rw (calls-value S s c (parts-arg (CallArg.ConditionArg (Condition.ConditionCall s c)) h .runs .first))
             (call-arg s c k result h d room ready w (callsValue reg c))
 
-    args-right : (args : CallArgs) → deepArgs isNode args ≤ n → ArgsRight R reg W args
+    args-right : (args : CallArgs) → deepArgs nodeWeight args ≤ n → ArgsRight R reg W args
     unfolding itemsIn expandTemporalCondition openOutcome deepCondition lengthArgs flatCondition
     args-right CallArgs.noArgs d P es result p k h room ready w =
         ending R (parts-args CallArgs.noArgs h) (writes P result refl (rewritten (sym (append-nil es)) w) above-refl ready tt)
@@ -311,8 +311,8 @@ module _ {R : Reads} {reg : Registry} (S : Settled R reg) where
 
       sides-right : {P Q : Area} {es : List Entry} {x : Checked} {o : Outcome (Unit {0})} → At R p (entry 6 s ∷ [])
           → WalkMatches R (Shaped left) flatCondition Q (es ++ entry 6 s ∷ []) (W .condition (going left k Q result)) within (expandTemporalCondition reg l k)
-          → At R within (flatWithin v ∷ []) → At R behind (flatCondition e) → Checks R k x behind o → deepCondition isNode e ≤ n
-          → Above P Q → Room P (deepCondition isCall (Condition.Since s l v e))
+          → At R within (flatWithin v ∷ []) → At R behind (flatCondition e) → Checks R k x behind o → deepCondition nodeWeight e ≤ n
+          → Above P Q → Room P (deepCondition callWeight (Condition.Since s l v e))
           → WalkMatches R (Shaped p) flatCondition Q es (W .condition (ownCopiedAfter R x k (W .condition (going left k Q result)))) (past (flatCondition e) behind)
           (proceed o (λ u. expandTemporalCondition reg l >>= λ l′. expandTemporalCondition reg e >>= λ e′. pure (Condition.Since s l′ v e′)))
       unfolding openOutcome flatCondition deepCondition isCall weigh copyOwnAfterIn copyOwnIn shapeIn rootCondition
@@ -325,8 +325,8 @@ module _ {R : Reads} {reg : Registry} (S : Settled R reg) where
       sides-right h lw hv he (refuses {f} y q) de a room = rw y (given.refuses _ _ (ih .strict-condition f k _ _) q)
 
       since-right : {P : Area} {es : List Entry} → At R p (entry 6 s ∷ []) → At R left (flatCondition l) → At R within (flatWithin v ∷ [])
-          → At R behind (flatCondition e) → deepCondition isNode l ≤ n → deepCondition isNode e ≤ n
-          → Room P (deepCondition isCall (Condition.Since s l v e)) → Ready result → Written P es
+          → At R behind (flatCondition e) → deepCondition nodeWeight l ≤ n → deepCondition nodeWeight e ≤ n
+          → Room P (deepCondition callWeight (Condition.Since s l v e)) → Ready result → Written P es
           → WalkMatches R (Shaped p) flatCondition P es (sinceIn R W s (state p (P .out) k) left (P .bytes) result) (past (flatCondition e) behind)
           (expandTemporalCondition reg (Condition.Since s l v e) k)
       unfolding sinceIn passedIn expandTemporalCondition openOutcome deepCondition
@@ -339,7 +339,7 @@ module _ {R : Reads} {reg : Registry} (S : Settled R reg) where
           (sides-right h lw hv he (within-concrete v s k hv) de a room))
 
     condition-right : (c : Condition) (k : ℕ) (p : Place) (result : List ℕ) {P : Area} {es : List Entry} → At R p (flatCondition c)
-        → deepCondition isNode c ≤ suc n → Room P (deepCondition isCall c) → Ready result → Written P es
+        → deepCondition nodeWeight c ≤ suc n → Room P (deepCondition callWeight c) → Ready result → Written P es
         → WalkMatches R (Shaped p) flatCondition P es
         (onCondition R W (state p (P .out) k) (P .bytes) result (conditionAt (R .condition) (R .layout) p)) (past (flatCondition c) p)
         (expandTemporalCondition reg c k)
@@ -437,7 +437,7 @@ module _ {R : Reads} {reg : Registry} (S : Settled R reg) where
     -- -------------------------------------------------------------- operands
 
     operand-right : (t : Term) (k : ℕ) (p : Place) (result : List ℕ) {P : Area} {es : List Entry} → At R p (flatTerm t)
-        → deepTerm isNode t ≤ suc n → Room P (deepTerm isCall t) → Ready result → Written P es
+        → deepTerm nodeWeight t ≤ suc n → Room P (deepTerm callWeight t) → Ready result → Written P es
         → WalkMatches R Nothing flatTerm P es (onOperand R W (state p (P .out) k) (P .bytes) result (termAt (R .condition) (R .layout) p))
         (past (flatTerm t) p) (expandTemporalOperand reg t k)
     unfolding expandTemporalCondition openOutcome deepCondition isNode isCall weigh flatCondition operandNodeIn sidesIn
@@ -484,7 +484,7 @@ module _ {R : Reads} {reg : Registry} (S : Settled R reg) where
     aggEntries a = entry 30 0 ∷ flatAgg a
 
     agg-right : (a : AggExpr) (k : ℕ) (p : Place) (result : List ℕ) {P : Area} {es : List Entry} → At R p (flatTerm (Term.Agg a))
-        → deepAgg isNode a ≤ suc n → Room P (deepAgg isCall a) → Ready result → Written P es
+        → deepAgg nodeWeight a ≤ suc n → Room P (deepAgg callWeight a) → Ready result → Written P es
         → WalkMatches R Nothing flatTerm P es
         (onAgg R W (state p (P .out) k) (P .bytes) result (aggAt (R .condition) (R .layout) (past (entry 30 0 ∷ []) p)))
         (past (flatTerm (Term.Agg a)) p) (expandAggOperand reg a (expandTemporalAgg reg a) k)
@@ -527,8 +527,8 @@ module _ {R : Reads} {reg : Registry} (S : Settled R reg) where
 
     -- a 56 takes the place of the 55
     value-arg-right : (s : ℕ) (c : Call) (k : ℕ) (p q : Place) (result : List ℕ) {P : Area} {es : List Entry}
-        → At R p (flatCondition (Condition.ConditionCall s c)) → deepCondition isNode (Condition.ConditionCall s c) ≤ suc n
-        → Room P (deepCall isCall c) → Ready result → Written P es
+        → At R p (flatCondition (Condition.ConditionCall s c)) → deepCondition nodeWeight (Condition.ConditionCall s c) ≤ suc n
+        → Room P (deepCall callWeight c) → Ready result → Written P es
         → WalkMatches R Nothing flatArg P es (valueArgIn R W (state q (P .out) k) p (P .bytes) result)
         (past (flatCondition (Condition.ConditionCall s c)) p) (asTermArg (expandTemporalCallToValue reg c) k)
     unfolding asTermArg openOutcome deepCondition isNode isCall weigh flatCondition valueArgIn

@@ -1,43 +1,108 @@
--- The expansion's answer: what the walk over two accepted tapes came to is what the definition says.
+-- The expansion's answer: what the walk came to, over two accepted tapes or their rewritings, is what the definition says.
 -- Assumes nothing.
-use Prim.Native.Nat.{ℕ, _<_, _^_}
+use Prim.Native.Nat.{ℕ, _≤_, _<_, _^_}
 use native.Mathlib.Omega.{arith}
-use mathlib.Core.Path.{_≡_, sym, subst, _∙_}
+use mathlib.Core.Path.{_≡_, sym, ap, subst, _∙_}
 use mathlib.Core.List.{List}
-use mathlib.Core.Bool.{true}
-use lib.ListN.{length}
-use Rattle.format.specs.Tape.{Bytes}
-use Rattle.definition.specs.Answers.{Answer, longBuffers, expandTapes, expandAnswer}
+use mathlib.Core.Bool.{Bool, true, _&&_}
+use lib.Dec.{eqb, eqb→eq}
+use lib.ListN.{length, replicate, length-replicate}
+use Rattle.format.specs.Ast.{Condition, MacroDef, Tree}
+use Rattle.format.specs.Rewritten.{weighted}
+use Rattle.format.specs.Tape.{registryRoot, conditionRoot, accept, rewritten, Bytes}
+use Rattle.format.proofs.Exact.{lawful-registry, lawful-condition}
+use Rattle.format.proofs.Rewritten.{rewrites-registry, rewrites-condition}
+use Rattle.format.proofs.Tests.{and-left, and-right, from-true}
+use Rattle.definition.specs.Answers.{Answer, Buffers, longBuffers, reading, numberAlone, treeAnswer, expandTapes, expandAnswer}
+use Rattle.definition.specs.Outcome.{Outcome}
 use Rattle.definition.specs.Expand.{expand}
 use Rattle.definition.proofs.Kept.{expand-bounded}
 use Rattle.grammar.specs.Grammar as grammar
+use Rattle.tape.specs.Ors.{orsIn}
 use Rattle.tape.specs.declared.layout.Layout.{Layout}
-use Rattle.tape.proofs.Roots.{registry-root, condition-root, accepted-root}
+use Rattle.tape.proofs.Located.{Alone}
+use Rattle.tape.proofs.Roots.{Accepted, registry-root, condition-root, accepted-root}
+use Rattle.de_morgan.specs.Rewritten.{rewrittenIn, rewrittenLayout}
+use Rattle.de_morgan.proofs.Rewritten.{rewritten-alone, given-alone}
 use Rattle.walk_state.specs.declared.writing.Walk.{Walk}
-use Rattle.answer.specs.Matches.{buffers, AnswersOutcome}
-use Rattle.answer.specs.Tapes.{acceptTwo}
-use Rattle.answer.specs.declared.tapes.Accepted.the-variants.{Both}
-use Rattle.answer.proofs.Operations.{first-accepted, second-accepted, long-enough, tree-walked}
+use Rattle.answer.specs.Matches.{buffers, ended, AnswersOutcome}
 use Rattle.expand_calls.specs.Output.{progress}
-use Rattle.expansion.specs.Expansion.{namedIn}
+use Rattle.answer.specs.Tapes.{acceptTwo}
+use Rattle.answer.specs.declared.tapes.Accepted.the-variants.{Both, Refused}
+use Rattle.answer.proofs.Operations.{first-accepted, second-accepted, long-enough, read-two, tree-refused, tree-walked}
+use Rattle.expansion.specs.Expansion.{AnswersExpansion, namedIn}
 use Rattle.expansion.proofs.TreesWhole.{expansion-matches}
 
 -- the walk leaves the two buffers as long as they were
-pub expanded : (r l m limit : ℕ) (registry input : List ℕ) {a : Answer} → longBuffers (buffers r l m) ≡ true → Bytes registry → Bytes input
-    → {d c : Layout} → acceptTwo registry grammar.definitions input grammar.condition ≡ Both d c → {w : Walk} (work result bytes final : List ℕ)
-    → limit < 2 ^ 32 → l ≡ length work → r ≡ length result → length bytes ≡ length work → length final ≡ length result
-    → progress w bytes final ≡ namedIn registry d 255 input c limit work result
+pub answered : (m limit : ℕ) (registry input : List ℕ) (d c : Layout) {a : Answer} {w : Walk} (work result bytes final : List ℕ)
+    → length bytes ≡ length work → length final ≡ length result → progress w bytes final ≡ namedIn registry d 255 input c limit work result
     → AnswersOutcome registry d input c w bytes (buffers (length final) (length bytes) m) a
-    → a ≡ expandAnswer (buffers r l m) limit registry input
-unfolding expandAnswer expandTapes
-expanded r l m limit registry input {a} long p q {d} {c} e {w} work result bytes final small room space kept held walked k =
-    let b = buffers r l m in
-    let x = accepted-root registry-root registry p d (first-accepted registry input grammar.definitions grammar.condition e) in
-    let y = accepted-root condition-root input q c (second-accepted registry input grammar.definitions grammar.condition e) in
-    let matches =
-    expansion-matches limit (x .0) (y .0) (x .1) (y .1) work result (omega (arith, long-enough b long .work))
-    (omega (arith, long-enough b long .result)) in
-    let there = subst (λ (n : ℕ). AnswersOutcome registry d input c w bytes (buffers n (length bytes) m) a) (held ∙ sym space) k in
-    tree-walked registry-root condition-root (expand limit) b registry input d c w bytes long (x .1 .reading) (y .1 .reading)
-    (expand-bounded b limit small registry input p q .short-message) (rw (← walked) at matches)
-    (subst (λ (n : ℕ). AnswersOutcome registry d input c w bytes (buffers r n m) a) (kept ∙ sym room) there)
+    → AnswersExpansion registry d input c limit work result (buffers (length result) (length work) m) a
+answered m limit registry input d c {a} {w} work result bytes final kept held walked k =
+    let there = subst (λ (n : ℕ). AnswersOutcome registry d input c w bytes (buffers n (length bytes) m) a) held k in
+    rw (← walked) (subst (λ (n : ℕ). AnswersOutcome registry d input c w bytes (buffers (length result) n m) a) kept there)
+
+-- the walk went over the rewritten tapes
+pub answered-rewritten : (limit : ℕ) (registry input zeros : List ℕ) (d c : Layout) {e f : Layout} {first second : List ℕ} (work result : List ℕ) (b : Buffers)
+    {a : Answer} → (e ≡ rewrittenLayout registry d) × (first ≡ rewrittenIn registry d zeros)
+    → (f ≡ rewrittenLayout input c) × (second ≡ rewrittenIn input c zeros) → AnswersExpansion first e second f limit work result b a
+    → AnswersExpansion (rewrittenIn registry d zeros) (rewrittenLayout registry d) (rewrittenIn input c zeros) (rewrittenLayout input c) limit work result b a
+answered-rewritten limit registry input zeros d c work result b p q k = rw (← (p .0), ← (p .1), ← (q .0), ← (q .1)) k
+
+-- what is found of the trees as they were given
+abbrev find : ℕ → List MacroDef → Condition → Outcome Tree
+find limit x y = expand limit (rewritten registryRoot x) (rewritten conditionRoot y)
+
+module _ (r l m limit : ℕ) (registry input : List ℕ) (p : Bytes registry) (q : Bytes input) where
+  abbrev b : Buffers
+  b = buffers r l m
+
+  as-accepted : expandAnswer b limit registry input
+      ≡ treeAnswer b (reading (accept (weighted registryRoot) registry) λ x. reading (accept (weighted conditionRoot) input) λ y. find limit x y)
+  unfolding expandAnswer expandTapes
+  as-accepted =
+      ap (treeAnswer b) (read-two rewrites-registry rewrites-condition lawful-registry lawful-condition registry input p q (expand limit))
+
+  -- a tape is refused
+  pub refused : {n : ℕ} {a : Answer} → longBuffers b ≡ true → acceptTwo registry grammar.definitions input grammar.condition ≡ Refused n
+      → a ≡ ended b (numberAlone n) → a ≡ expandAnswer b limit registry input
+  refused long e k = tree-refused registryRoot conditionRoot registry-root condition-root (find limit) b registry input long e k ∙ sym as-accepted
+
+  module _ (small : limit < 2 ^ 32) (long : longBuffers b ≡ true) {d c : Layout}
+      (e : acceptTwo registry grammar.definitions input grammar.condition ≡ Both d c) (work result : List ℕ) (room : l ≡ length work)
+      (space : r ≡ length result) where
+    first : (x : List MacroDef) × Accepted registryRoot registry d x
+    first = accepted-root registry-root registry p d (first-accepted registry input grammar.definitions grammar.condition e)
+
+    second : (y : Condition) × Accepted conditionRoot input c y
+    second = accepted-root condition-root input q c (second-accepted registry input grammar.definitions grammar.condition e)
+
+    walked : {s t : List ℕ} {d′ c′ : Layout} {a : Answer} → Alone registryRoot s d′ (rewritten registryRoot (first .0))
+        → Alone conditionRoot t c′ (rewritten conditionRoot (second .0)) → AnswersExpansion s d′ t c′ limit work result b a
+        → a ≡ expandAnswer b limit registry input
+    walked {s} {t} {d′} {c′} h g k =
+        let X = namedIn s d′ 255 t c′ limit work result in
+        let matches = expansion-matches limit (rewritten registryRoot (first .0)) (rewritten conditionRoot (second .0)) h g work result
+        (omega (arith, room, long-enough b long .work)) (omega (arith, space, long-enough b long .result)) in
+        tree-walked registryRoot conditionRoot registry-root condition-root (find limit) b registry input s t d′ c′ (X .walk) (X .work) long (first .1 .reading) (second .1 .reading)
+        (subst (λ (z : Answer). z .messageLength ≤ 2048) as-accepted (expand-bounded b limit small registry input p q .short-message)) matches k
+        ∙ sym as-accepted
+
+    -- no tape has an Or
+    pub expanded : {a : Answer} → (eqb (orsIn registry d) 0 && eqb (orsIn input c) 0) ≡ true → AnswersExpansion registry d input c limit work result b a
+        → a ≡ expandAnswer b limit registry input
+    expanded none k =
+        let t = from-true none in
+        let one = eqb (orsIn registry d) 0 in
+        walked
+        (given-alone registry-root rewrites-registry (first .1) (eqb→eq (orsIn registry d) 0 (and-left one _ t)))
+        (given-alone condition-root rewrites-condition (second .1) (eqb→eq (orsIn input c) 0 (and-right one _ t))) k
+
+    pub expanded-rewritten : {a : Answer} →
+        AnswersExpansion (rewrittenIn registry d (replicate 12296 0)) (rewrittenLayout registry d) (rewrittenIn input c (replicate 12296 0))
+        (rewrittenLayout input c) limit work result b a
+        → a ≡ expandAnswer b limit registry input
+    expanded-rewritten k =
+        walked
+        (rewritten-alone registry-root rewrites-registry (first .1) (replicate 12296 0) (omega (arith, length-replicate {A = ℕ} 12296 0)))
+        (rewritten-alone condition-root rewrites-condition (second .1) (replicate 12296 0) (omega (arith, length-replicate {A = ℕ} 12296 0))) k

@@ -1,4 +1,4 @@
--- Two accepted tapes: the expansion comes to the outcome that its definition has.
+-- Two tapes, each with a tree alone on it: the expansion comes to the outcome that its definition has.
 -- Assumes nothing.
 use Prim.Native.Nat.{ℕ, _≤_}
 use native.Mathlib.Omega.{arith}
@@ -11,7 +11,7 @@ use lib.ListN.{length}
 use Rattle.grammar.specs.Grammar as grammar
 use Rattle.format.specs.Ast.{Condition, Tree, MacroDef}
 use Rattle.format.specs.Flat.{flatCondition, flatTree}
-use Rattle.format.specs.Limits.{isNode, isCall, deepCondition, deepTree, fitsDepths, tooLargeTree}
+use Rattle.format.specs.Limits.{nodeWeight, callWeight, deepCondition, deepTree, fitsDepths, tooLargeTree}
 use Rattle.format.specs.Tape.{conditionRoot, registryRoot}
 use Rattle.definition.specs.Check as definition
 use Rattle.definition.specs.Check.{contains}
@@ -28,8 +28,8 @@ use Rattle.tape.specs.declared.layout.Place.{Place}
 use Rattle.nodes.specs.declared.Heading.{Heading}
 use Rattle.nodes.specs.declared.HeadingRead.{HeadingRead}
 use Rattle.nodes.specs.declared.HeadingRead.the-variants as hr
-use Rattle.tape.proofs.Located.{Inside, accepted-inside}
-use Rattle.tape.proofs.Roots.{Accepted, condition-root, nesting-64}
+use Rattle.tape.proofs.Located.{Inside, Alone}
+use Rattle.tape.proofs.Roots.{nesting-64}
 use Rattle.format.proofs.Tests.{and-right}
 use Rattle.tape.proofs.Trees.{passes-condition}
 use Rattle.area.specs.Area.{Area, areaIn, emptyAt, fitsArea}
@@ -126,7 +126,7 @@ module _ (R : Reads) where
   ends (refuses work result e matches) = rw e (refl, matches)
 
   module _ (reg : Registry) (S : Settled R reg) (t : Condition) (h : Inside (R .condition) (R .layout) origin (flatCondition t))
-      (nodes : deepCondition isNode t ≤ 64) (calls : deepCondition isCall t ≤ 4) (work result : List ℕ) (room : 65536 ≤ length work)
+      (nodes : deepCondition nodeWeight t ≤ 64) (calls : deepCondition callWeight t ≤ 4) (work result : List ℕ) (room : 65536 ≤ length work)
       (ready : Ready result) where
     whole-outcome-matches : End (wholeIn R work result) (expandWhole reg t 0)
     unfolding wholeIn expandWhole openOutcome
@@ -150,8 +150,8 @@ module _ (R : Reads) where
       },
     )
 
-pub expansion-matches : (limit : ℕ) {reg cond : List ℕ} {d c : Layout} (defs : List MacroDef) (t : Condition) → Accepted registryRoot reg d defs
-    → Accepted conditionRoot cond c t
+pub expansion-matches : (limit : ℕ) {reg cond : List ℕ} {d c : Layout} (defs : List MacroDef) (t : Condition) → Alone registryRoot reg d defs
+    → Alone conditionRoot cond c t
     → (work result : List ℕ) → 65536 ≤ length work → 12288 ≤ length result
     → let X : Progress = namedIn reg d 255 cond c limit work result in OutcomeMatches reg d cond c (X .walk) (X .work) (expand limit defs t)
 unfolding registryRoot conditionRoot namedIn expand buildAt
@@ -159,6 +159,6 @@ expansion-matches limit {reg} {cond} {d} {c} defs t h g work result room ready =
     let indexed = indexed-registry defs h in
     judged (readsOf reg d (indexAt reg d 255) cond c limit) (record { defs = defs; limit = limit })
     (settled-of h indexed (ended-registry defs h) refl) t
-    (accepted-inside condition-root g) (nesting-64 (deepCondition isNode t) (deepCondition isCall t) (g .small))
-    (calls-4 (deepCondition isNode t) (deepCondition isCall t) (g .small)) work result room ready
+    (g .inside) (nesting-64 (deepCondition nodeWeight t) (deepCondition callWeight t) (g .depths))
+    (calls-4 (deepCondition nodeWeight t) (deepCondition callWeight t) (g .depths)) work result room ready
     (buildAt reg d (indexAt reg d 255)) (build defs) (build-matches indexed) (own-build reg d [] (indexAt reg d 255))

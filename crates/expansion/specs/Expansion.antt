@@ -3,7 +3,9 @@
 use Prim.Native.Nat.{ℕ}
 use mathlib.Core.List.{List}
 use Rattle.grammar.specs.Grammar as grammar
+use Rattle.definition.specs.Answers.{Answer, Buffers}
 use Rattle.tape.specs.declared.layout.Layout.{Layout}
+use Rattle.answer.specs.Matches.{AnswersOutcome}
 use Rattle.answer.specs.declared.Verdict.{Verdict}
 use Rattle.answer.specs.declared.Verdict.the-variants as verdict
 use Rattle.registry.specs.Places.{Row, indexAt, buildAt}
@@ -32,3 +34,8 @@ unfoldable pub namedIn : List ℕ → Layout → ℕ → List ℕ → Layout →
 namedIn reg d room cond c limit work result =
     let rs : List Row = indexAt reg d room in
     onVerdict (wholeIn (readsOf reg d rs cond c limit) work result) work result (buildAt reg d rs)
+
+-- a is the answer of every outcome that matches the walk over the two tapes, which were given, or rewritten
+abbrev pub AnswersExpansion : List ℕ → Layout → List ℕ → Layout → ℕ → (work result : List ℕ) → Buffers → Answer → Type 0
+AnswersExpansion reg d cond c limit work result b a =
+    let X = namedIn reg d 255 cond c limit work result in AnswersOutcome reg d cond c (X .walk) (X .work) b a

@@ -7,6 +7,8 @@ use answer::number_alone;
 use answer::tapes::Accepted;
 use answer::tapes::accept_two;
 use area::empty;
+use de_morgan::rewrite;
+use de_morgan::without_or;
 use expand_calls::output::Context;
 use expand_walk::expand_condition;
 use grammar::codes::CONDITION;
@@ -20,11 +22,12 @@ use walk_state::writing::State;
 use walk_state::writing::Walk;
 ghost use mathlib.Core.Path.{_≡_};
 ghost use Prim.Native.Nat.{_/_};
-ghost use lib.ListN.{length};
+ghost use lib.ListN.{length, replicate};
 ghost use Rattle.answer.specs.Matches.{answerWith, buffers};
+ghost use Rattle.de_morgan.specs.Rewritten.{rewrittenIn, rewrittenLayout};
 ghost use Rattle.definition.specs.Answers.{expandAnswer};
 ghost use Rattle.expand_calls.specs.Output.{reads, progress};
-ghost use Rattle.expansion.specs.Expansion.{wholeIn, namedIn};
+ghost use Rattle.expansion.specs.Expansion.{AnswersExpansion, wholeIn, namedIn};
 
 // The walk over the whole condition, and 3 with 0..0 if what it came to is too large.
 fn expand_whole(
@@ -91,6 +94,43 @@ fn expand_tapes(
     expand_named(reg, d, &mut places, cond, c, limit, work, result)
 }
 
+// The walk over two tapes, and its answer.
+fn expand_in<'a>(
+    registry: &'a [u8],
+    d: Layout,
+    condition: &'a [u8],
+    c: Layout,
+    limit: u32,
+    result: &mut [u8],
+    work: &mut [u8],
+    message: &mut [u8],
+) -> Answer
+    ensures { λ r. ⌜ AnswersExpansion (now (registry .entry)) d (now (condition .entry)) c limit (now (work .entry)) (now (result .entry)) (buffers (length (now (result .entry))) (length (now (work .entry))) (length (now (message .entry)))) (answerWith r (now (result .exit)) (now (work .exit)) (now (message .exit))) ⌝ }
+{
+    let w = expand_tapes(registry, d, condition, c, limit, work, result);
+    answer_walk(registry, d, condition, c, w, result, work, message)
+}
+
+// The same over the rewritten tapes, for which there is room here: most tapes have no Or.
+fn expand_rewritten(
+    registry: &[u8],
+    d: Layout,
+    condition: &[u8],
+    c: Layout,
+    limit: u32,
+    result: &mut [u8],
+    work: &mut [u8],
+    message: &mut [u8],
+) -> Answer
+    ensures { λ r. ⌜ AnswersExpansion (rewrittenIn (now (registry .entry)) d (replicate 12296 0)) (rewrittenLayout (now (registry .entry)) d) (rewrittenIn (now (condition .entry)) c (replicate 12296 0)) (rewrittenLayout (now (condition .entry)) c) limit (now (work .entry)) (now (result .entry)) (buffers (length (now (result .entry))) (length (now (work .entry))) (length (now (message .entry)))) (answerWith r (now (result .exit)) (now (work .exit)) (now (message .exit))) ⌝ }
+{
+    let mut first = [0u8; 12296];
+    let mut second = [0u8; 12296];
+    let e = rewrite(registry, d, &mut first);
+    let f = rewrite(condition, c, &mut second);
+    expand_in(&first, e, &second, f, limit, result, work, message)
+}
+
 // The operation: the answer and every byte of the three buffers are what the definition says, for every input and every buffer.
 pub fn expand<'a>(
     registry: &'a [u8],
@@ -108,8 +148,11 @@ pub fn expand<'a>(
     let accepted = accept_two(registry, DEFINITIONS, condition, CONDITION);
     match accepted {
         Accepted::Both(d, c) => {
-            let w = expand_tapes(registry, d, condition, c, limit, work, result);
-            answer_walk(registry, d, condition, c, w, result, work, message)
+            if without_or(registry, d, condition, c) {
+                expand_in(registry, d, condition, c, limit, result, work, message)
+            } else {
+                expand_rewritten(registry, d, condition, c, limit, result, work, message)
+            }
         }
         Accepted::Refused(n) => number_alone(n, 0, result, work, message),
     }

@@ -5,7 +5,7 @@ use native.Mathlib.Nat.{pow-suc}
 use native.Mathlib.Omega.{arith}
 use mathlib.Core.Path.{_≡_, refl, sym, _∙_, ap}
 use mathlib.Core.List.{List, [], _∷_, _++_, append-assoc}
-use mathlib.Core.Bool.{Bool, true, _&&_}
+use mathlib.Core.Bool.{Bool, true}
 use mathlib.Core.Option.{Option, some}
 use borrow.Author.Tests.{eq-eqb, le-leb}
 use lib.Dec.{T, leb, leb→le}
@@ -17,7 +17,7 @@ use Rattle.format.specs.Flat.{flatTexts, flatUnit, flatInterval, flatWit
 use Rattle.format.specs.Macro.{isCode}
 use Rattle.format.specs.Utf8.{wellTexts}
 use Rattle.format.specs.Limits.{fitsSizes}
-use Rattle.format.specs.Tape.{Reading, fromLe, isText, textWidth, cons, takeEntry, split, readTexts, readSections, readSizes, readTape, Root, readLimits, readRoot, readStack, readTree, read}
+use Rattle.format.specs.Tape.{Reading, fromLe, isText, textWidth, cons, takeEntry, split, readTexts, readSections, readSizes, readTape, Root, small, readLimits, readRoot, readStack, readTree, accept}
 use Rattle.format.proofs.All.{All, all-nil, all-cons, all-head, all-tail, all-append}
 use Rattle.format.proofs.Tests.{and-left, and-right, is-true}
 use Rattle.format.proofs.Builds.{Rooted}
@@ -263,6 +263,6 @@ well-registry ds = all-cons refl (well-definitions ds)
 
 -- The encoding of a tree in range is read back as that tree, if it keeps to the limits of the root, and else it is too large.
 pub read-back : {A : Type 0} (root : Root A) (a : A) → Rooted root a → WellTexted (root .flat a) → InRange (root .flat a)
-    → read root (encode (root .flat a)) ≡ readLimits (root .texts (root .flat a) && root .small a) a
-unfolding read readTree readStack readRoot
+    → accept root (encode (root .flat a)) ≡ readLimits (small root (root .flat a) a) a
+unfolding accept readTree readStack readRoot
 read-back root a q w r = rw (tape-back (root .flat a) w r, q .built, q .taken) refl

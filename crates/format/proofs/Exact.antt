@@ -1,12 +1,12 @@
--- `read` gives a tree exactly where the bytes are a tape of it within the limits: one law over the root, and the five roots.
+-- `accept` gives a tree exactly where the bytes are a tape of it within the limits: one law over the root, and the five roots.
 -- Assumes nothing.
 use mathlib.Core.Path.{_≡_, refl, sym, _∙_, ap}
 use mathlib.Core.Logic.{_↔_}
 use mathlib.Core.List.{List, []}
-use mathlib.Core.Bool.{Bool, true, false, _&&_}
+use mathlib.Core.Bool.{Bool, true, false}
 use Prim.Native.Nat.{ℕ}
 use lib.Dec.{T}
-use Rattle.format.specs.Tape.{Reading, Root, conditionRoot, definitionRoot, callRoot, registryRoot, treeRoot, readLimits, read, Bytes}
+use Rattle.format.specs.Tape.{Reading, Root, conditionRoot, definitionRoot, callRoot, registryRoot, treeRoot, small, readLimits, accept, Bytes}
 use Rattle.format.proofs.Spells.{Spells, s-condition-root, s-definition, s-call, s-registry-root, s-tree-root}
 use Rattle.format.proofs.Builds.{Rooted, rooted-condition, rooted-definition, rooted-call, rooted-registry, rooted-tree}
 use Rattle.format.proofs.Accepted.{OnTape, accepted-on-tape}
@@ -19,21 +19,22 @@ pub record Lawful {A : Type 0} (root : Root A) : Type 0 where
   pub rooted : (a : A) → Rooted root a
   pub texted : (a : A) → WellTexted (root .flat a)
 
-within-limits : {A : Type 0} (x y : Bool) (a : A) → T x → T y → readLimits (x && y) a ≡ Reading.accepted a
+pub within-limits : {A : Type 0} (x : Bool) (a : A) → T x → readLimits x a ≡ Reading.accepted a
 unfolding readLimits
-within-limits true true a p q = refl
-within-limits true false a p q = absurd q
-within-limits false y a p q = absurd p
+within-limits true a p = refl
+within-limits false a p = absurd p
+
+-- the encoding of a tree within the limits is accepted
+pub on-tape-accepted : {A : Type 0} (root : Root A) → Lawful root → {bytes : List ℕ} {a : A} → OnTape root bytes a
+    → accept root bytes ≡ Reading.accepted a
+on-tape-accepted root law {bytes} {a} t =
+    ap (accept root) (sym (t .encoded))
+    ∙ (read-back root a (law .rooted a) (law .texted a) (t .range)
+    ∙ within-limits (small root (root .flat a) a) a (t .small))
 
 pub exactly : {A : Type 0} (root : Root A) → Lawful root → (bytes : List ℕ) → Bytes bytes → (a : A)
-    → (read root bytes ≡ Reading.accepted a) ↔ OnTape root bytes a
-exactly root law bytes q a = (accepted-on-tape root (law .spells) bytes q a, back)
-  where
-    back : OnTape root bytes a → read root bytes ≡ Reading.accepted a
-    back t =
-        ap (read root) (sym (t .encoded))
-        ∙ (read-back root a (law .rooted a) (law .texted a) (t .range)
-        ∙ within-limits (root .texts (root .flat a)) (root .small a) a (t .texts) (t .small))
+    → (accept root bytes ≡ Reading.accepted a) ↔ OnTape root bytes a
+exactly root law bytes q a = (accepted-on-tape root (law .spells) bytes q a, on-tape-accepted root law)
 
 pub lawful-condition : Lawful conditionRoot
 unfolding conditionRoot

@@ -11,3 +11,9 @@ pub mod Encodes
 pub mod Exact
 pub mod Stands
 pub mod Deep
+pub mod Parts
+pub mod Counts
+pub mod Becomes
+pub mod Weights
+pub mod Unchanged
+pub mod Rewritten

@@ -1,5 +1,5 @@
 -- Acceptance of a tape: the bytes as a tree, or 2, or 3, in document 01's order: "slice under 8 is 2, N or T over is 3, then any
--- other 2, then any other 3".
+-- other 2, then any other 3"; then the rewriting of document 02's point 12. Every operation reads its tapes by `read`.
 -- Assumes nothing.
 use Prim.Native.Nat.{ℕ, _+_, _*_, _<_}
 use mathlib.Core.List.{List, [], _∷_}
@@ -7,12 +7,14 @@ use mathlib.Core.Bool.{Bool, true, false, _&&_}
 use mathlib.Core.Option.{Option, none, some}
 use lib.Dec.{leb, eqb}
 use lib.ListN.{length, take, drop}
-use Rattle.format.specs.Entry.{Text, Entry}
+use Rattle.format.specs.Entry.{Text, Entry, textOf}
 use Rattle.format.specs.Utf8.{wellTexts}
 use Rattle.format.specs.Ast.{Condition, Call, Tree, MacroDef}
 use Rattle.format.specs.Flat.{flatCondition, flatCall, flatTree, flatDef, flatRegistry}
 use Rattle.format.specs.Macro.{isCode}
-use Rattle.format.specs.Limits.{isNode, isCall, deepCondition, deepCall, deepTree, deepBody, fitsSizes, fitsDepths}
+use Rattle.format.specs.Limits.{nodeWeight, callWeight, deepCondition, deepCall, deepTree, deepBody, deepBodies, fitsSizes, fitsDepths}
+use Rattle.format.specs.Replace.{Replacement, replaceCondition, replaceCall, replaceTree, replaceDef, replaceDefs}
+use Rattle.format.specs.DeMorgan.{deMorgan}
 use Rattle.format.specs.Build.{Stack, Pop, pop, asCondition, asCall, asDefinition, asTree, listOf, build}
 
 -- 2, 3, or what was read
@@ -81,13 +83,15 @@ readTape bytes =
 
 -- ------------------------------------------------------------------ the root
 
--- A root that is wanted: how it is taken from the stack, how it is spelled, and whether its texts and its tree keep to the
--- largest figures.
+-- A root that is wanted: how it is taken from the stack, how it is spelled, whether its texts keep to the largest figures, how deep
+-- it is, whether it keeps to 16 parameters, and what it becomes where Ors and intervals are replaced.
 pub record Root (A : Type 0) : Type 0 where
   pub reader : Pop A
   pub flat : A → List Entry
   pub texts : List Entry → Bool
-  pub small : A → Bool
+  pub deep : (ℕ → ℕ) → A → ℕ
+  pub few : A → Bool
+  pub replace : Replacement → A → A
 
 -- "in an input, a text of 64 bytes, or 255 for 22 and 23"
 unfoldable pub longestText : Bool → ℕ
@@ -99,12 +103,12 @@ shortTexts [] = true
 shortTexts (e ∷ es) = leb (length (e .text)) (longestText (isCode (22 ∷ 23 ∷ []) (e .code))) && shortTexts es
 
 -- "16 parameters"
-unfoldable pub smallBody : MacroDef → Bool
-smallBody d = leb (length (d .params)) 16 && fitsDepths (deepBody isNode (d .body)) (deepBody isCall (d .body))
+unfoldable pub fewParams : MacroDef → Bool
+fewParams d = leb (length (d .params)) 16
 
-unfoldable pub smallBodies : List MacroDef → Bool
-smallBodies [] = true
-smallBodies (d ∷ ds) = smallBody d && smallBodies ds
+unfoldable pub fewParamsEach : List MacroDef → Bool
+fewParamsEach [] = true
+fewParamsEach (d ∷ ds) = fewParams d && fewParamsEach ds
 
 -- "Roots: a condition; 60; 54; for a registry a list of 60."
 unfoldable pub conditionRoot : Root Condition
@@ -113,11 +117,21 @@ conditionRoot =
       reader = pop asCondition;
       flat = flatCondition;
       texts = shortTexts;
-      small = λ c. fitsDepths (deepCondition isNode c) (deepCondition isCall c);
+      deep = deepCondition;
+      few = λ c. true;
+      replace = replaceCondition;
     }
 
 unfoldable pub definitionRoot : Root MacroDef
-definitionRoot = record { reader = pop asDefinition; flat = flatDef; texts = shortTexts; small = smallBody }
+definitionRoot =
+    record {
+      reader = pop asDefinition;
+      flat = flatDef;
+      texts = shortTexts;
+      deep = λ w d. deepBody w (d .body);
+      few = fewParams;
+      replace = replaceDef;
+    }
 
 unfoldable pub callRoot : Root Call
 callRoot =
@@ -125,12 +139,21 @@ callRoot =
       reader = pop asCall;
       flat = flatCall;
       texts = shortTexts;
-      small = λ c. fitsDepths (deepCall isNode c) (deepCall isCall c);
+      deep = deepCall;
+      few = λ c. true;
+      replace = replaceCall;
     }
 
 unfoldable pub registryRoot : Root (List MacroDef)
 registryRoot =
-    record { reader = listOf [] _∷_ (pop asDefinition); flat = flatRegistry; texts = shortTexts; small = smallBodies }
+    record {
+      reader = listOf [] _∷_ (pop asDefinition);
+      flat = flatRegistry;
+      texts = shortTexts;
+      deep = deepBodies;
+      few = fewParamsEach;
+      replace = replaceDefs;
+    }
 
 -- "A result's root is a condition or a term." The length of a text is an input's figure and not a result's.
 unfoldable pub treeRoot : Root Tree
@@ -139,8 +162,15 @@ treeRoot =
       reader = pop asTree;
       flat = flatTree;
       texts = λ es. true;
-      small = λ t. fitsDepths (deepTree isNode t) (deepTree isCall t);
+      deep = deepTree;
+      few = λ t. true;
+      replace = replaceTree;
     }
+
+-- what is spelled by these entries keeps to the largest figures that N and T are not
+unfoldable pub small : {A : Type 0} → Root A → List Entry → A → Bool
+small root es a =
+    root .texts es && (fitsDepths (root .deep nodeWeight a) (root .deep callWeight a) && root .few a)
 
 -- the root's figures last, once the whole is known to be a tape with the root wanted
 unfoldable pub readLimits : {A : Type 0} → Bool → A → Reading A
@@ -150,7 +180,7 @@ readLimits false a = Reading.tooLarge
 unfoldable pub readRoot : {A : Type 0} → Root A → List Entry → Option (A × Stack) → Reading A
 readRoot root es none = Reading.malformed
 readRoot root es (some r) =
-    elim (r .1) [ [] ↦ readLimits (root .texts es && root .small (r .0)) (r .0) | _∷_ i st ↦ Reading.malformed ]
+    elim (r .1) [ [] ↦ readLimits (small root es (r .0)) (r .0) | _∷_ i st ↦ Reading.malformed ]
 
 unfoldable pub readStack : {A : Type 0} → Root A → List Entry → Option Stack → Reading A
 readStack root es none = Reading.malformed
@@ -161,8 +191,28 @@ readTree root Reading.malformed = Reading.malformed
 readTree root Reading.tooLarge = Reading.tooLarge
 readTree root (Reading.accepted es) = readStack root es (build es)
 
+unfoldable pub accept : {A : Type 0} → Root A → List ℕ → Reading A
+accept root bytes = readTree root (readTape bytes)
+
+-- ------------------------------------------------------------------ the rewritten tree
+
+abbrev pub rewritten : {A : Type 0} → Root A → A → A
+rewritten root a = root .replace deMorgan a
+
+-- every largest figure of a tape
+unfoldable pub fits : {A : Type 0} → Root A → A → Bool
+fits root a = fitsSizes (length (root .flat a)) (length (textOf (root .flat a))) && small root (root .flat a) a
+
+-- Document 02, point 12: "Tapes that still hold it are read, and every `a or b` is taken as" its rewriting. "This happens after
+-- acceptance and before check, size and expansion"; "3 with 0..0 also if the rewritten tape is too large, directly after that
+-- tape's other limits".
+unfoldable pub rewrite : {A : Type 0} → Root A → Reading A → Reading A
+rewrite root Reading.malformed = Reading.malformed
+rewrite root Reading.tooLarge = Reading.tooLarge
+rewrite root (Reading.accepted a) = readLimits (fits root (rewritten root a)) (rewritten root a)
+
 unfoldable pub read : {A : Type 0} → Root A → List ℕ → Reading A
-read root bytes = readTree root (readTape bytes)
+read root bytes = rewrite root (accept root bytes)
 
 -- what a slice's elements are
 abbrev pub Bytes : List ℕ → Type 0
@@ -172,7 +222,7 @@ Bytes (b ∷ bs) = (b < 256) × Bytes bs
 -- Whoever unfolds this unfolds every definition of this file.
 unfoldable pub openTape : Unit {0}
 unfolding
-    fromLe isText textWidth cons takeEntry split readTexts readSections readSizes readTape smallBody
-    smallBodies conditionRoot definitionRoot callRoot registryRoot treeRoot longestText shortTexts readLimits readRoot
-    readStack readTree read
+    fromLe isText textWidth cons takeEntry split readTexts readSections readSizes readTape fewParams
+    fewParamsEach conditionRoot definitionRoot callRoot registryRoot treeRoot longestText shortTexts small readLimits
+    readRoot readStack readTree accept fits rewrite read
 openTape = tt

@@ -43,8 +43,8 @@ only-texts (each s) v t = go v
 abbrev light : ℕ → ℕ → Bool
 light n c =
     not (inSort (getD temporalWords n 0) c)
-    || (leb (nestingOf (rowAt temporalWords c)) (innerOf (rowAt temporalWords c))
-    || leb (nestingOf (rowAt temporalWords c)) 1 && textOnly (followsOf (followsIn (getD temporalWords n 0) (rowAt temporalWords c))))
+    || (leb (nestingOf false (rowAt temporalWords c)) (innerOf (rowAt temporalWords c))
+    || leb (nestingOf false (rowAt temporalWords c)) 1 && textOnly (followsOf (followsIn (getD temporalWords n 0) (rowAt temporalWords c))))
 
 all-light : T (every (λ (n : ℕ). every (light n) 0 77) 0 32)
 unfolding temporalWords followsOf
@@ -52,8 +52,8 @@ all-light = tt
 
 abbrev Leaf : ℕ → ℕ → Type 0
 Leaf s c =
-    (nestingOf (rowAt temporalWords c) ≤ innerOf (rowAt temporalWords c))
-    ⊎ ((nestingOf (rowAt temporalWords c) ≤ 1)
+    (nestingOf false (rowAt temporalWords c) ≤ innerOf (rowAt temporalWords c))
+    ⊎ ((nestingOf false (rowAt temporalWords c) ≤ 1)
     × ((v : ℕ) → Texts (sortsOf (followsOf (followsIn (sortAt temporalWords s) (rowAt temporalWords c))) v)))
 
 pub leaf : (s c : ℕ) → inSort (sortAt temporalWords s) c ≡ true → Leaf s c
@@ -62,28 +62,28 @@ leaf s =
   where
     inside : (c : ℕ) → c < 77 → inSort (sortAt temporalWords s) c ≡ true → Leaf s c
     inside c h i =
-        go (inSort (sortAt temporalWords s) c) (leb (nestingOf (rowAt temporalWords c)) (innerOf (rowAt temporalWords c)))
-        (leb→le (nestingOf (rowAt temporalWords c)) (innerOf (rowAt temporalWords c))) i
+        go (inSort (sortAt temporalWords s) c) (leb (nestingOf false (rowAt temporalWords c)) (innerOf (rowAt temporalWords c)))
+        (leb→le (nestingOf false (rowAt temporalWords c)) (innerOf (rowAt temporalWords c))) i
         (at (light (s % 32)) 0 77 (at (λ (n : ℕ). every (light n) 0 77) 0 32 all-light (s % 32) (omega arith) (omega arith)) c (omega arith) h)
       where
         low : Bool
-        low = leb (nestingOf (rowAt temporalWords c)) 1
+        low = leb (nestingOf false (rowAt temporalWords c)) 1
 
         alone : Bool
         alone = textOnly (followsOf (followsIn (sortAt temporalWords s) (rowAt temporalWords c)))
 
-        go : (i a : Bool) → (T a → nestingOf (rowAt temporalWords c) ≤ innerOf (rowAt temporalWords c)) → i ≡ true
+        go : (i a : Bool) → (T a → nestingOf false (rowAt temporalWords c) ≤ innerOf (rowAt temporalWords c)) → i ≡ true
             → T (not i || (a || low && alone)) → Leaf s c
         go false a le e t = absurd (let z : _≡_ {A = ℕ} 0 1 = cc in omega arith)
         go true true le e t = inl (le tt)
         go true false le e t =
-            inr (leb→le (nestingOf (rowAt temporalWords c)) 1 (and-left low _ t), λ v. only-texts (followsOf (followsIn (sortAt temporalWords s) (rowAt temporalWords c))) v (and-right low _ t))
+            inr (leb→le (nestingOf false (rowAt temporalWords c)) 1 (and-left low _ t), λ v. only-texts (followsOf (followsIn (sortAt temporalWords s) (rowAt temporalWords c))) v (and-right low _ t))
 
 -- a text counts nothing and brings nothing
 pub bare-text : (c : ℕ) → inSort (sortAt temporalWords text) c ≡ true
-    → (nestingOf (rowAt temporalWords c) ≡ 0) × (followsIn (sortAt temporalWords text) (rowAt temporalWords c) ≡ 0)
+    → (nestingOf false (rowAt temporalWords c) ≡ 0) × (followsIn (sortAt temporalWords text) (rowAt temporalWords c) ≡ 0)
 unfolding temporalWords
-bare-text c i = subst (λ (k : ℕ). (nestingOf (rowAt temporalWords k) ≡ 0) × (followsIn (sortAt temporalWords text) (rowAt temporalWords k) ≡ 0)) is-40 (refl, refl)
+bare-text c i = subst (λ (k : ℕ). (nestingOf false (rowAt temporalWords k) ≡ 0) × (followsIn (sortAt temporalWords text) (rowAt temporalWords k) ≡ 0)) is-40 (refl, refl)
   where
     is-40 : 40 ≡ c
     is-40 = go (ltb c 41) (ltb→lt c 41) (leb→le 40 c (and-left (leb 40 c) _ (from-true i))) (and-right (leb 40 c) _ (from-true i))

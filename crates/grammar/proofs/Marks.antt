@@ -9,22 +9,24 @@ use native.Mathlib.Omega.{arith}
 use borrow.Author.Tests.{ne-eqb}
 use lib.Dec.{T, leb, ltb, eqb, leb→le, ltb→lt, eqb→eq}
 use lib.ListN.{List·getD-eq-default}
-use Rattle.format.specs.Limits.{isNode, isCall, weigh}
+use Rattle.format.specs.DeMorgan.{orWeight}
+use Rattle.format.specs.Limits.{isNode, isCall, weigh, nodeWeight, callWeight}
 use Rattle.format.specs.Macro.{isCode}
 use Rattle.format.specs.Tape.{isText, longestText}
 use Rattle.format.proofs.Tests.{and-left, and-right, is-false}
+use Rattle.format.proofs.Weights.{deMorgan-outweighs}
 use Rattle.grammar.specs.Words.{temporalWords, rowAt, textMark, longMark, nameMark, nestingOf, callsOf, longestOf}
 use Rattle.grammar.proofs.Table.{at, same, same-eq}
 
--- A table whose marks say which values are the lengths of texts, as format does for every tape; and which of its codes count in nesting and
--- as calls.
+-- A table whose marks say which values are the lengths of texts, as format does for every tape; and how much its codes count in nesting, in
+-- an input or elsewhere, and as calls.
 pub record Table : Type 0 where
   pub words : List ℕ
-  pub nodes : ℕ → Bool
-  pub calls : ℕ → Bool
+  pub nodes : Bool → ℕ → ℕ
+  pub calls : ℕ → ℕ
   pub texts-are : (c : ℕ) → textMark (rowAt words c) ≡ isText c
-  pub nodes-are : (c : ℕ) → nestingOf (rowAt words c) ≡ weigh (nodes c)
-  pub calls-are : (c : ℕ) → callsOf (rowAt words c) ≡ weigh (calls c)
+  pub nodes-are : (limited : Bool) (c : ℕ) → nestingOf limited (rowAt words c) ≡ nodes limited c
+  pub calls-are : (c : ℕ) → callsOf (rowAt words c) ≡ calls c
 
 -- ------------------------------------------------------------------ past the last code
 
@@ -82,18 +84,27 @@ name-marks =
     (λ c h. same-eq _ _ (at (λ (k : ℕ). same (nameMark (rowAt temporalWords k)) (isCode (27 ∷ 43 ∷ []) k)) 0 77 tt c (omega arith) h))
     (λ c h. rw (past-row c h) (sym (no-code (27 ∷ 43 ∷ []) c tt h)))
 
-pub node-marks : (c : ℕ) → nestingOf (rowAt temporalWords c) ≡ weigh (isNode c)
-unfolding temporalWords isNode weigh
-node-marks =
+-- In an input an Or counts for the three nodes that it is rewritten to; every other code counts what it counts elsewhere.
+abbrev pub nodesIn : Bool → ℕ → ℕ
+nodesIn true = orWeight nodeWeight
+nodesIn false = nodeWeight
+
+pub node-marks : (limited : Bool) (c : ℕ) → nestingOf limited (rowAt temporalWords c) ≡ nodesIn limited c
+unfolding temporalWords isNode weigh orWeight
+node-marks true =
     everywhere
-    (λ c h. eqb→eq _ _ (at (λ (k : ℕ). eqb (nestingOf (rowAt temporalWords k)) (weigh (isNode k))) 0 77 tt c (omega arith) h))
+    (λ c h. eqb→eq _ _ (at (λ (k : ℕ). eqb (nestingOf true (rowAt temporalWords k)) (orWeight nodeWeight k)) 0 77 tt c (omega arith) h))
+    (λ c h. rw (past-row c h, ← (deMorgan-outweighs nodeWeight .other c (ne-eqb c 2 (λ (e : c ≡ 2). omega arith))), no-node c h))
+node-marks false =
+    everywhere
+    (λ c h. eqb→eq _ _ (at (λ (k : ℕ). eqb (nestingOf false (rowAt temporalWords k)) (nodeWeight k)) 0 77 tt c (omega arith) h))
     (λ c h. rw (past-row c h, no-node c h))
 
-pub call-marks : (c : ℕ) → callsOf (rowAt temporalWords c) ≡ weigh (isCall c)
+pub call-marks : (c : ℕ) → callsOf (rowAt temporalWords c) ≡ callWeight c
 unfolding temporalWords isCall weigh
 call-marks =
     everywhere
-    (λ c h. eqb→eq _ _ (at (λ (k : ℕ). eqb (callsOf (rowAt temporalWords k)) (weigh (isCall k))) 0 77 tt c (omega arith) h))
+    (λ c h. eqb→eq _ _ (at (λ (k : ℕ). eqb (callsOf (rowAt temporalWords k)) (callWeight k)) 0 77 tt c (omega arith) h))
     (λ c h. rw (past-row c h, ne-eqb c 54 (λ (e : c ≡ 54). omega arith)))
 
 -- with 64 for names the longest texts are format's
@@ -108,8 +119,8 @@ abbrev pub temporal : Table
 temporal =
     record {
       words = temporalWords;
-      nodes = isNode;
-      calls = isCall;
+      nodes = nodesIn;
+      calls = callWeight;
       texts-are = text-marks;
       nodes-are = node-marks;
       calls-are = call-marks;

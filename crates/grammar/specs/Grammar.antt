@@ -154,13 +154,14 @@ sorts =
     ∷ listOf definition
     ∷ []
 
--- what a scan asks of a code: whether its value is a text's length, of up to 255 bytes, or of a name's; whether it counts in nesting, and
--- may then have others in it that do; and whether it is a call
+-- what a scan asks of a code: whether its value is a text's length, of up to 255 bytes, or of a name's; whether it counts in nesting,
+-- counts for two more in an input, and may have others in it that count; and whether it is a call
 pub data Mark : Type 0 where
   isText : Mark
   isLong : Mark
   isName : Mark
   isNode : Mark
+  isTwoMore : Mark
   isInner : Mark
   isCall : Mark
 
@@ -210,7 +211,7 @@ abbrev pub rows : List Row
 rows =
     unused
     ∷ inner (row any (condition ∷ condition ∷ []))  -- 1 And
-    ∷ inner (row any (condition ∷ condition ∷ []))  -- 2 Or
+    ∷ marked Mark.isTwoMore (inner (row any (condition ∷ condition ∷ [])))  -- 2 Or: a negation, a conjunction, a negation
     ∷ inner (row any (condition ∷ []))  -- 3 Not
     ∷ inner (row any (within ∷ condition ∷ []))  -- 4 Formerly
     ∷ inner (row any (within ∷ condition ∷ []))  -- 5 Previous

@@ -48,10 +48,6 @@ accepts left room e =
     inSort (e .sort) (e .code)
     && (valued (valuesOf (e .row)) (e .value) && (leb (counted (followsOf (e .follows)) (e .value)) left && leb (e .text) room))
 
--- the nesting below an entry; 64 stands for every number from 64 on
-abbrev pub deeper : ℕ → Head → ℕ
-deeper n e = min (n + nestingOf (e .row)) 64
-
 -- the number of calls around what follows an entry; 4 stands for every number from 4 on
 abbrev pub enclosed : ℕ → Head → ℕ
 enclosed n e = min (n + callsOf (e .row)) 4
@@ -60,6 +56,14 @@ enclosed n e = min (n + callsOf (e .row)) 4
 abbrev pub isLimited : ℕ → Bool
 isLimited longest = not (eqb longest 0)
 
+-- how much an entry counts in nesting
+abbrev pub nestsBy : ℕ → Head → ℕ
+nestsBy longest e = nestingOf (isLimited longest) (e .row)
+
+-- the nesting below it; 64 stands for every number from 64 on
+abbrev pub deeper : ℕ → ℕ → Head → ℕ
+deeper longest n e = min (n + nestsBy longest e) 64
+
 -- a figure is passed by what adds to it
 abbrev pub passes : ℕ → ℕ → ℕ → Bool
 passes most n more = ltb most (n + more) && ltb 0 more
@@ -67,11 +71,11 @@ passes most n more = ltb most (n + more) && ltb 0 more
 -- an entry passes a largest figure: nesting 64; a call inside the arguments of 3 others; of an input 16 in a short list, and the longest text
 abbrev pub exceeds : ℕ → Wait → Head → Bool
 exceeds longest w e =
-    passes 64 (w .nesting) (nestingOf (e .row))
+    passes 64 (w .nesting) (nestsBy longest e)
     || (passes 4 (w .calls) (callsOf (e .row))
     || (isLimited longest && (isFew (e .sort) && ltb 16 (e .value))
     || isLimited longest && ltb (longestOf longest (e .row)) (e .text)))
 
 -- what is waited for below an entry
-abbrev pub below : Wait → Head → List Wait
-below w e = waits (deeper (w .nesting) e) (enclosed (w .calls) e) (sortsOf (followsOf (e .follows)) (e .value))
+abbrev pub below : ℕ → Wait → Head → List Wait
+below longest w e = waits (deeper longest (w .nesting) e) (enclosed (w .calls) e) (sortsOf (followsOf (e .follows)) (e .value))

@@ -34,6 +34,7 @@ markWord Mark.isText = 0x200000000
 markWord Mark.isLong = 0x400000000
 markWord Mark.isName = 0x800000000
 markWord Mark.isNode = 0x1000000000
+markWord Mark.isTwoMore = 0x2000000000
 markWord Mark.isCall = 0x4000000000
 markWord Mark.isInner = 0x8000000000
 
@@ -81,9 +82,9 @@ longMark row = eqb (row / 0x400000000 % 2) 1
 abbrev pub nameMark : ℕ → Bool
 nameMark row = eqb (row / 0x800000000 % 2) 1
 
--- how much a code counts in nesting, and among calls
-abbrev pub nestingOf : ℕ → ℕ
-nestingOf row = row / 0x1000000000 % 4
+-- how much a code counts in nesting, in an input or elsewhere, and among calls
+abbrev pub nestingOf : Bool → ℕ → ℕ
+nestingOf limited row = pick limited (row / 0x1000000000 % 4) (row / 0x1000000000 % 2)
 
 abbrev pub callsOf : ℕ → ℕ
 callsOf row = row / 0x4000000000 % 2

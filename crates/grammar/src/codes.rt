@@ -59,8 +59,8 @@ const OWN: u64 = 0x1_0000_0000;
 
 const FEW: u64 = 0x4000_0000_0000_0000;
 
-// The marks of a code: its value is a text's length, of up to 255 bytes, or of a name's; it counts in nesting; it is a call; it counts in
-// nesting and may have others in it that do. The bit above that of nodes is free, for a code that counts more than once.
+// The marks of a code: its value is a text's length, of up to 255 bytes, or of a name's; it counts in nesting; in an input it counts for
+// two more, being rewritten to three nodes on each path; it is a call; it counts in nesting and may have others in it that do.
 const TEXT_MARK: u64 = 0x2_0000_0000;
 
 const LONG_MARK: u64 = 0x4_0000_0000;
@@ -68,6 +68,8 @@ const LONG_MARK: u64 = 0x4_0000_0000;
 const NAME_MARK: u64 = 0x8_0000_0000;
 
 const NODE_MARK: u64 = 0x10_0000_0000;
+
+const TWO_MORE_MARK: u64 = 0x20_0000_0000;
 
 const CALL_MARK: u64 = 0x40_0000_0000;
 
@@ -115,7 +117,7 @@ const GRAMMAR: [u64; 109] = [
     // the codes
     UNUSED,
     0o01_01 + INNER_MARK, // 1 And
-    0o01_01 + INNER_MARK, // 2 Or
+    0o01_01 + INNER_MARK + TWO_MORE_MARK, // 2 Or
     0o01 + INNER_MARK, // 3 Not
     0o01_10 + INNER_MARK, // 4 Formerly
     0o01_10 + INNER_MARK, // 5 Previous

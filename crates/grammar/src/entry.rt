@@ -13,7 +13,7 @@ ghost use lib.Dec.{ltb};
 ghost use lib.ListN.{length, drop};
 ghost use Rattle.grammar.specs.Stack.{cellOf, Grown, stackOf, waitOf, waitsOf};
 ghost use Rattle.grammar.specs.Waits.{accepts, below, counted, exceeds, isLimited, passes};
-ghost use Rattle.grammar.specs.Words.{followsOf, isFew, longestOf, widthOf};
+ghost use Rattle.grammar.specs.Words.{followsOf, isFew, longestOf, nestingOf, widthOf};
 
 // An entry's code and value and the length of its text, with what a table says of it at a place of a sort: the words of the sort and of
 // the code, and that of what follows.
@@ -108,12 +108,25 @@ fn exceeds_input(longest: u64, e: Head) -> bool
     longest_of(longest, e.row) < e.text
 }
 
-// Whether an entry of the cell `w` passes a largest figure.
+// How much an entry counts in nesting. `longest` is as in `exceeds`.
+fn nesting_of(longest: u64, row: u64) -> u64
+    ensures { λ r. ⌜ (r ≡ nestingOf (isLimited longest) row) × (r < 4) ⌝ }
+{
+    if longest == 0 {
+        row / 0x10_0000_0000 % 2
+    } else {
+        row / 0x10_0000_0000 % 4
+    }
+}
+
+// Whether an entry of the cell `w` passes a largest figure. `longest` is the longest text of a name, or 0 where the figures of an input are
+// not asked for.
 pub fn exceeds(longest: u64, w: u64, e: Head) -> bool
     ensures { λ r. ⌜ r ≡ exceeds longest (waitOf w) e ⌝ }
 {
     let row = e.row;
-    if passes(64, w / 0x200_0000_0000 % 128, row / 0x10_0000_0000 % 4) {
+    let nesting = nesting_of(longest, row);
+    if passes(64, w / 0x200_0000_0000 % 128, nesting) {
         return true;
     }
     if passes(4, w / 0x1_0000_0000_0000 % 8, row / 0x40_0000_0000 % 2) {
@@ -130,25 +143,25 @@ fn raised(n: u64, more: u64, most: u64) -> u64
     if n + more <= most { n + more } else { most }
 }
 
-// What follows an entry that stood at the first place of the cell `w`, on top of a stack that is without it.
-fn bring(stack: &mut [u64], top: usize, w: u64, e: Head) -> usize
+// What follows an entry that stood at the first place of the cell `w`, on top of a stack that is without it. `longest` is as in `exceeds`.
+fn bring(stack: &mut [u64], top: usize, w: u64, e: Head, longest: u64) -> usize
     requires { ⌜ (0 < top) × (top ≤ length (now stack)) × (e .follows < 0x40000000) × (counted (followsOf (e .follows)) (e .value) < 2048) ⌝ }
-    ensures { λ r. ⌜ Grown top 1 (now (stack .exit)) r (below (waitOf w) e ++ stackOf (now (stack .entry)) top) ⌝ }
+    ensures { λ r. ⌜ Grown top 1 (now (stack .exit)) r (below longest (waitOf w) e ++ stackOf (now (stack .entry)) top) ⌝ }
 {
     let row = e.row;
-    let n = raised(w / 0x200_0000_0000 % 128, row / 0x10_0000_0000 % 4, 64);
+    let n = raised(w / 0x200_0000_0000 % 128, nesting_of(longest, row), 64);
     let k = raised(w / 0x1_0000_0000_0000 % 8, row / 0x40_0000_0000 % 2, 4);
     push(stack, top, e.follows, e.value, n, k)
 }
 
 // The stack after an entry that stands at the first place of the cell `w` on top of it. Most entries bring nothing.
-pub fn advance(stack: &mut [u64], top: usize, w: u64, e: Head) -> usize
+pub fn advance(stack: &mut [u64], top: usize, w: u64, e: Head, longest: u64) -> usize
     requires { ⌜ (0 < top) × (top < length (now stack)) × (e .follows < 0x40000000) × (counted (followsOf (e .follows)) (e .value) < 2048) ⌝ }
-    ensures { λ r. ⌜ Grown (top + 1) 2 (now (stack .exit)) r (below (waitOf w) e ++ (drop 1 (waitsOf (cellOf w)) ++ stackOf (now (stack .entry)) (top + 1))) ⌝ }
+    ensures { λ r. ⌜ Grown (top + 1) 2 (now (stack .exit)) r (below longest (waitOf w) e ++ (drop 1 (waitsOf (cellOf w)) ++ stackOf (now (stack .entry)) (top + 1))) ⌝ }
 {
     let left = drop_first(stack, top, w);
     if e.follows == 0 {
         return left;
     }
-    bring(stack, left, w, e)
+    bring(stack, left, w, e, longest)
 }

@@ -25,8 +25,7 @@ use Rattle.nodes.specs.Node.{nameAt}
 use Rattle.tape.specs.declared.layout.Layout.{Layout}
 use Rattle.tape.specs.declared.layout.Place.{Place}
 use Rattle.nodes.specs.declared.Heading.{Heading}
-use Rattle.tape.proofs.Located.{past, past-at, Inside, inside-next, accepted-inside}
-use Rattle.tape.proofs.Roots.{Accepted, registry-root}
+use Rattle.tape.proofs.Located.{past, past-at, Inside, inside-next, Alone}
 use Rattle.tape.proofs.Runs.{place, run-code, run-value}
 use Rattle.nodes.proofs.Entries.{is-spelled}
 use Rattle.nodes.proofs.Placed.{parts-def, parts-defs}
@@ -151,19 +150,19 @@ few-defs : {s : List ℕ} {l : Layout} (ds : List MacroDef) → Inside s l (plac
 unfolding flatRegistry
 few-defs ds i = omega (arith, long-defs ds, i .run .entries-left, i .run .held .entries-most)
 
-module _ {s : List ℕ} {l : Layout} (ds : List MacroDef) (h : Accepted registryRoot s l ds) where
-  -- where the definitions of an accepted registry stand
+module _ {s : List ℕ} {l : Layout} (ds : List MacroDef) (h : Alone registryRoot s l ds) where
+  -- where the definitions of a registry stand
   stand : Inside s l (past (entry 41 (length ds) ∷ []) (place 0 0)) (flatDefs ds)
   unfolding registryRoot flatRegistry
-  stand = inside-next (entry 41 (length ds)) (flatDefs ds) (accepted-inside registry-root h)
+  stand = inside-next (entry 41 (length ds)) (flatDefs ds) (h .inside)
 
   -- a table with room for 255 has a row for each
   whole-index : indexAt s l 255 ≡ rowsFrom s l (length (flatDefs ds)) (past (entry 41 (length ds) ∷ []) (place 0 0))
   unfolding indexAt registryRoot flatRegistry
   whole-index =
-      let i = accepted-inside registry-root h in
+      let i = h .inside in
       let p : Place = past (entry 41 (length ds) ∷ []) (place 0 0) in
-      let entries : l .entries ≡ suc (length (flatDefs ds)) = ap (λ (m : Layout). m .entries) (h .layout-is) in
+      let entries : l .entries ≡ suc (length (flatDefs ds)) = h .entries-are in
       let few : length (rowsFrom s l (length (flatDefs ds)) p) ≤ 255 = omega (arith, indexed-length (indexed-defs ds p stand), few-defs ds i) in
       let held : holds s l ≡ true = is-true (holding s l (i .run .held)) in
       let found : take 255 (rowsFrom s l (l .entries) (place 0 0)) ≡ rowsFrom s l (length (flatDefs ds)) p =
@@ -178,7 +177,7 @@ module _ {s : List ℕ} {l : Layout} (ds : List MacroDef) (h : Accepted registry
   pub ended-registry : Ended s l (indexAt s l 255) ds
   unfolding registryRoot flatRegistry past
   ended-registry =
-      let entries : l .entries ≡ suc (length (flatDefs ds)) = ap (λ (m : Layout). m .entries) (h .layout-is) in
+      let entries : l .entries ≡ suc (length (flatDefs ds)) = h .entries-are in
       let p : Place = past (entry 41 (length ds) ∷ []) (place 0 0) in
       rw whole-index (ended-defs ds p stand (omega (arith, entries, past-at (flatDefs ds) p)))
 

@@ -6,8 +6,10 @@ use mathlib.Core.List.{List, []}
 use mathlib.Core.Option.{Option, none, some}
 use lib.ListN.{length}
 use Rattle.format.specs.Entry.{Text, textOf}
-use Rattle.format.specs.Ast.{MacroDef}
+use Rattle.format.specs.Ast.{MacroBody, MacroDef}
 use Rattle.format.specs.Flat.{flatParams, flatBody}
+use Rattle.format.specs.Replace.{replaceBody}
+use Rattle.format.specs.DeMorgan.{deMorgan}
 use Rattle.format.specs.Tape.{Reading, registryRoot, read}
 use Rattle.format.specs.Stands.{Stands}
 use Rattle.definition.specs.Registry.{get}
@@ -46,15 +48,18 @@ pub record Builds (s : List ℕ) (m : ℕ) (message : List ℕ) (b : Built) : Ty
 
 -- ------------------------------------------------------------------ the definition of a name
 
--- a head that was found is the definition's: its span, its name, how many parameters it has; they and its body stand behind it
+-- A head that was found is the definition's: its span, its name, how many parameters it has. They stand behind it, and then the body as it
+-- is on the tape, which the definition has rewritten (document 02, point 12).
 pub record Describes (s : List ℕ) (l : Layout) (h : Heading) (params : Place) (d : MacroDef) : Type 0 where
   pub its-span : h .span ≡ d .span
   pub its-name : nameAt s l (h .name) ≡ d .name
   pub its-count : h .count ≡ length (d .params)
   pub its-params : Stands s (l .codes) (l .values) (l .text) (params .at) (params .text) (flatParams (d .params))
+  pub given : MacroBody
+  pub is-rewritten : replaceBody deMorgan given ≡ d .body
   pub its-body :
       Stands s (l .codes) (l .values) (l .text) (params .at + length (flatParams (d .params)))
-      (params .text + length (textOf (flatParams (d .params)))) (flatBody (d .body))
+      (params .text + length (textOf (flatParams (d .params)))) (flatBody given)
 
 unfoldable pub FoundMatches : List ℕ → Layout → Found → Option MacroDef → Type 0
 FoundMatches s l Nothing none = Unit {0}

@@ -13,7 +13,7 @@ use Rattle.grammar.specs.Grammar as grammar
 use Rattle.format.specs.Entry.{Text, Entry, entry}
 use Rattle.format.specs.Ast.{Condition, Term, Call, CallArg, CallArgs, Tree, MacroBody, MacroDef}
 use Rattle.format.specs.Flat.{lengthArgs, flatCondition, flatTerm, flatArgs, flatCall, flatTree, flatParams, flatBody, flatDef}
-use Rattle.format.specs.Limits.{isNode, isCall, deepCondition, deepTerm, deepTree, deepBody, fitsAll, tooLargeTree}
+use Rattle.format.specs.Limits.{nodeWeight, callWeight, deepCondition, deepTerm, deepTree, deepBody, fitsAll, tooLargeTree}
 use Rattle.definition.specs.Outcome.{refusal, Outcome, pure, proceed, _>>_, openOutcome}
 use Rattle.definition.specs.Messages.{cedarInCondition, argumentCount}
 use Rattle.definition.specs.Size.{size, bodySize}
@@ -84,8 +84,8 @@ use Rattle.subst_places.proofs.TreesTable.{bound-of}
 -- ------------------------------------------------------------------ the largest figures
 
 -- a tree that was written alone is too large, or has overflowed, exactly where the definition says so
-pub too-large : {P : Area} {es : List Entry} {sort : ℕ} {d : (ℕ → Bool) → ℕ} → Passes (sort ∷ []) es d true → sort < 32 → Written P es
-    → (P .out .overflowed || tooDeep (P .bytes) (areaLayout (P .out .base) (P .out .n) (P .out .t)) sort) ≡ not (fitsAll es (d isNode) (d isCall))
+pub too-large : {P : Area} {es : List Entry} {sort : ℕ} {d : (ℕ → ℕ) → ℕ} → Passes (sort ∷ []) es d true → sort < 32 → Written P es
+    → (P .out .overflowed || tooDeep (P .bytes) (areaLayout (P .out .base) (P .out .n) (P .out .t)) sort) ≡ not (fitsAll es (d nodeWeight) (d callWeight))
 unfolding fitsAll
 too-large {P} {es} {sort} {d} b h w =
     cases (fitsArea es)
@@ -95,7 +95,7 @@ too-large {P} {es} {sort} {d} b h w =
 pub small-fits : (t : Tree) → tooLargeTree t ≡ false → fitsArea (flatTree t) ≡ true
 unfolding tooLargeTree fitsAll
 small-fits t e = is-true (and-left (fitsArea (flatTree t)) _
-    (from-true (not-false (fitsAll (flatTree t) (deepTree isNode t) (deepTree isCall t)) e)))
+    (from-true (not-false (fitsAll (flatTree t) (deepTree nodeWeight t) (deepTree callWeight t)) e)))
 
 pub limited : {A : Type 0} (Q : A → Type 0) (large : Bool) (span k : ℕ) (a : A) → (large ≡ false → Q a)
     → AllDone Q (proceed (checkLimits large span k) (λ u. pure a))
@@ -126,7 +126,7 @@ module _ (T : Tapes) where
 
 module _ {T : Tapes} {maps : SubstMaps} (B : Bound T maps) where
   condition-matches : (c : Condition) (k : ℕ) {p : Place} {P : Area} → Inside (T .definition) (T .maps .definition) p (flatCondition c)
-      → deepCondition isNode c ≤ 64
+      → deepCondition nodeWeight c ≤ 64
       → Written P [] → WalkMatches T flatCondition P [] (temporalConditionIn T (going p k P)) (past (flatCondition c) p)
       (substituteTemporalCondition c maps k)
   unfolding temporalConditionIn substituteTemporalCondition openOutcome tooLargeTree flatTree deepTree
@@ -136,7 +136,7 @@ module _ {T : Tapes} {maps : SubstMaps} (B : Bound T maps) where
       (right B 64 .condition c k h d w))
 
   value-matches : (t : Term) (k : ℕ) {p : Place} {P : Area} → Inside (T .definition) (T .maps .definition) p (flatTerm t)
-      → deepTerm isNode t ≤ 64
+      → deepTerm nodeWeight t ≤ 64
       → Written P [] → WalkMatches T flatTerm P [] (temporalValueIn T (going p k P)) (past (flatTerm t) p) (substituteTemporalValue t maps k)
   unfolding temporalValueIn substituteTemporalValue openOutcome tooLargeTree flatTree deepTree
   value-matches t k {p} {P} h d w =
@@ -235,7 +235,7 @@ module _ (dm : MacroDef) (span : ℕ) (name : Text) (args : CallArgs) (limit : �
 
     -- what a call becomes: the body's charge, the walk, and 3
     pub call-condition : (b : Condition) (k : ℕ) {P : Area} → Inside def l (bodyStart dm h) (flatBody (MacroBody.TemporalCondition b))
-        → deepCondition isNode b ≤ 64 → Written P []
+        → deepCondition nodeWeight b ≤ 64 → Written P []
         → WalkMatches T flatCondition P []
         (callIn def l call c limit (called dm h (MacroBody.TemporalCondition b)) callHead first k (P .out) (P .bytes))
         (past (flatBody (MacroBody.TemporalCondition b)) (bodyStart dm h))
@@ -249,7 +249,7 @@ module _ (dm : MacroDef) (span : ℕ) (name : Text) (args : CallArgs) (limit : �
         (λ u k₁ Q e x. condition-matches its-bound b k₁ (r .first) d x))
 
     pub call-value : (b : Term) (k : ℕ) {P : Area} → Inside def l (bodyStart dm h) (flatBody (MacroBody.TemporalValue b))
-        → deepTerm isNode b ≤ 64 → Written P []
+        → deepTerm nodeWeight b ≤ 64 → Written P []
         → WalkMatches T flatTerm P []
         (callIn def l call c limit (called dm h (MacroBody.TemporalValue b)) callHead first k (P .out) (P .bytes))
         (past (flatBody (MacroBody.TemporalValue b)) (bodyStart dm h))
@@ -274,7 +274,7 @@ module _ (dm : MacroDef) (span : ℕ) (name : Text) (args : CallArgs) (limit : �
       record { its-number = refl; its-span = refl; its-message = rw (parts-def dm h .spelled, wanted, got) }
 
   module _ (few : length (dm .params) ≤ 16) (bytes : List ℕ) (w : Written (areaIn (emptyAt 0) bytes) []) where
-    counted-matches : (b : MacroBody) → b ≢ MacroBody.Cedar → Inside def l (bodyStart dm h) (flatBody b) → deepBody isNode b ≤ 64
+    counted-matches : (b : MacroBody) → b ≢ MacroBody.Cedar → Inside def l (bodyStart dm h) (flatBody b) → deepBody nodeWeight b ≤ 64
         → WalkMatches T flatTree (areaIn (emptyAt 0) bytes) []
         (onKind callHead (countedIn def l call c limit (called dm h b) callHead first bytes) bytes (kindOf b))
         (past (flatBody b) (bodyStart dm h)) (substituteBody limit dm b (Call.MacroCall span name args) 0)
@@ -320,7 +320,7 @@ module _ (dm : MacroDef) (span : ℕ) (name : Text) (args : CallArgs) (limit : �
   cedar-refusal-matches = record { its-number = refl; its-span = refl; its-message = ap cedarInCondition (parts-call span name args g .spelled) }
 
   -- "one definition and one call, names not compared, arguments as given"; nothing is charged before it
-  pub tapes-matches : dm .body ≢ MacroBody.Cedar → length (dm .params) ≤ 16 → deepBody isNode (dm .body) ≤ 64 → (bytes : List ℕ)
+  pub tapes-matches : dm .body ≢ MacroBody.Cedar → length (dm .params) ≤ 16 → deepBody nodeWeight (dm .body) ≤ 64 → (bytes : List ℕ)
       → 12288 ≤ length bytes
       → WalkMatches (T dm span name args limit itsName h g) flatTree (areaIn (emptyAt 0) bytes) [] (tapesIn def l call c limit bytes)
       (past (flatBody (dm .body)) (bodyStart dm h)) (substitute limit dm (Call.MacroCall span name args))

@@ -20,7 +20,7 @@ use Rattle.format.specs.Flat.{
   flatTerms,
 }
 use Rattle.format.proofs.Deep.{deep-condition, deep-term, deep-agg}
-use Rattle.format.specs.Limits.{isNode, weigh, deepCondition, deepTerm, deepAgg, deepFields, deepTerms}
+use Rattle.format.specs.Limits.{isNode, nodeWeight, weigh, deepCondition, deepTerm, deepAgg, deepFields, deepTerms}
 use Rattle.format.proofs.Spells.{flatWithinList}
 use Rattle.definition.specs.Outcome.{refusal, Outcome, pure, proceed, _>>=_, openOutcome}
 use Rattle.definition.specs.Substitute.{
@@ -142,17 +142,17 @@ module _ {T : Tapes} {maps : SubstMaps} (B : Bound T maps) where
   -- the walkers are right about trees that are at most n deep
   pub record Right (W : Walkers) (n : ℕ) : Type 0 where
     pub condition : (c : Condition) (k : ℕ) {p : Place} {P : Area} {es : List Entry} → At p (flatCondition c)
-        → deepCondition isNode c ≤ n → Written P es
+        → deepCondition nodeWeight c ≤ n → Written P es
         → WalkMatches T flatCondition P es (W .condition (going p k P)) (past (flatCondition c) p) (substTemporalCondition maps c k)
-    pub agg : (a : AggExpr) (k : ℕ) {p : Place} {P : Area} {es : List Entry} → At p (flatAgg a) → deepAgg isNode a ≤ n → Written P es
+    pub agg : (a : AggExpr) (k : ℕ) {p : Place} {P : Area} {es : List Entry} → At p (flatAgg a) → deepAgg nodeWeight a ≤ n → Written P es
         → WalkMatches T flatAgg P es (W .agg (going p k P)) (past (flatAgg a) p) (substTemporalAgg maps a k)
-    pub term : (t : Term) (span k : ℕ) {p : Place} {P : Area} {es : List Entry} → At p (flatTerm t) → deepTerm isNode t ≤ n → Written P es
+    pub term : (t : Term) (span k : ℕ) {p : Place} {P : Area} {es : List Entry} → At p (flatTerm t) → deepTerm nodeWeight t ≤ n → Written P es
         → WalkMatches T flatTerm P es (W .term span (going p k P)) (past (flatTerm t) p) (substTemporalTerm maps t span k)
     pub strict-condition : Strict (W .condition)
     pub strict-term : (span : ℕ) → Strict (W .term span)
 
   module _ (W : Walkers) (n : ℕ) (R : Right W n) where
-    each-term : (ts : Terms) (span k : ℕ) {p : Place} {P : Area} {es : List Entry} → At p (flatTerms ts) → deepTerms isNode ts ≤ n
+    each-term : (ts : Terms) (span k : ℕ) {p : Place} {P : Area} {es : List Entry} → At p (flatTerms ts) → deepTerms nodeWeight ts ≤ n
         → Written P es
         → WalkMatches T flatTerms P es (itemsIn (W .term span) (lengthTerms ts) (going p k P)) (past (flatTerms ts) p)
         (substTemporalTerms maps ts span k)
@@ -173,7 +173,7 @@ module _ {T : Tapes} {maps : SubstMaps} (B : Bound T maps) where
     fieldEntries name t = textEntry 40 name ∷ flatTerm t
 
     each-field : (fs : NamedArgs) (span k : ℕ) {p : Place} {P : Area} {es : List Entry} → At p (flatFields fs)
-        → deepFields isNode fs ≤ n → Written P es
+        → deepFields nodeWeight fs ≤ n → Written P es
         → WalkMatches T flatFields P es (itemsIn (fieldIn T W span) (lengthFields fs) (going p k P)) (past (flatFields fs) p)
         (substTemporalFields maps fs span k)
     unfolding itemsIn fieldIn substTemporalCondition openOutcome deepCondition lengthFields flatCondition
@@ -212,7 +212,7 @@ module _ {T : Tapes} {maps : SubstMaps} (B : Bound T maps) where
       put i = putWithinIn (T .definition) (T .call) (T .maps) i k
 
       module _ {P : Area} {es : List Entry} (lw : WalkMatches T flatCondition P (es ++ entry 6 s ∷ []) (walked P) within (substTemporalCondition maps l k))
-          (hr : At behind (flatCondition r)) (dr : deepCondition isNode r ≤ n) where
+          (hr : At behind (flatCondition r)) (dr : deepCondition nodeWeight r ≤ n) where
         -- what the within became stands behind the left side, and the right side behind it
         since-sides-matches : (i : Interval) (u : WithinSpec) → Strict (put i)
             → ((k₁ : ℕ) (Q : Area) (fs : List Entry) → Written Q fs
@@ -239,7 +239,7 @@ module _ {T : Tapes} {maps : SubstMaps} (B : Bound T maps) where
         since-matches (refused q) = refuses (walked P .bytes) (R .strict-condition _ k (walked P .bytes)) q (gives-kept T lw)
 
       since-right : {P : Area} {es : List Entry} → At p (entry 6 s ∷ []) → At left (flatCondition l) → At within (flatWithin v ∷ []) → At behind (flatCondition r)
-          → deepCondition isNode l ≤ n → deepCondition isNode r ≤ n → Written P es
+          → deepCondition nodeWeight l ≤ n → deepCondition nodeWeight r ≤ n → Written P es
           → WalkMatches T flatCondition P es (sinceIn T W s (state p (P .out) k) left (P .bytes)) (past (flatCondition r) behind)
           (substTemporalCondition maps (Condition.Since s l v r) k)
       unfolding sinceIn sinceWithinIn substTemporalCondition openOutcome
@@ -250,7 +250,7 @@ module _ {T : Tapes} {maps : SubstMaps} (B : Bound T maps) where
           rw (gives-behind T (T .definition) (T .maps .definition) left lw (inside-skip hl (passes-condition l) (omega arith))) (since-matches lw hr dr (within-found B v s k hv)))
 
     condition-right : (c : Condition) (k : ℕ) (p : Place) {P : Area} {es : List Entry} → At p (flatCondition c)
-        → deepCondition isNode c ≤ suc n → Written P es
+        → deepCondition nodeWeight c ≤ suc n → Written P es
         → WalkMatches T flatCondition P es (onCondition T W (state p (P .out) k) (P .bytes) (conditionAt (T .definition) (T .maps .definition) p))
         (past (flatCondition c) p) (substTemporalCondition maps c k)
     unfolding
@@ -345,7 +345,7 @@ module _ {T : Tapes} {maps : SubstMaps} (B : Bound T maps) where
     condition-right (Condition.ConditionCall s c) k p h d w = rw (parts-condition (Condition.ConditionCall s c) h .read)
         (stops T (call-refusal-matches s))
 
-    term-right : (t : Term) (span k : ℕ) (p : Place) {P : Area} {es : List Entry} → At p (flatTerm t) → deepTerm isNode t ≤ suc n
+    term-right : (t : Term) (span k : ℕ) (p : Place) {P : Area} {es : List Entry} → At p (flatTerm t) → deepTerm nodeWeight t ≤ suc n
         → Written P es
         → WalkMatches T flatTerm P es (onTerm T W span (state p (P .out) k) (P .bytes) (termAt (T .definition) (T .maps .definition) p))
         (past (flatTerm t) p)
@@ -387,7 +387,7 @@ module _ {T : Tapes} {maps : SubstMaps} (B : Bound T maps) where
         let i = parts-term (Term.BinderRef name) h in
         rw (i .read) (gensym-matches B (Term.Var (gensymFor maps name)) 27 (i .name) p (i .spelled) w refl)
 
-    agg-right : (a : AggExpr) (k : ℕ) (p : Place) {P : Area} {es : List Entry} → At p (flatAgg a) → deepAgg isNode a ≤ suc n → Written P es
+    agg-right : (a : AggExpr) (k : ℕ) (p : Place) {P : Area} {es : List Entry} → At p (flatAgg a) → deepAgg nodeWeight a ≤ suc n → Written P es
         → WalkMatches T flatAgg P es (onAgg T W (state p (P .out) k) (P .bytes) (aggAt (T .definition) (T .maps .definition) p))
         (past (flatAgg a) p)
         (substTemporalAgg maps a k)

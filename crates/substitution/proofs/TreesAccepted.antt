@@ -1,15 +1,15 @@
--- Two accepted tapes: the substitution comes to the outcome that its definition has.
+-- Two tapes, each with a tree alone on it: the substitution comes to the outcome that its definition has.
 -- Assumes nothing.
 use Prim.Native.Nat.{ℕ, _≤_}
 use native.Mathlib.Omega.{arith}
-use mathlib.Core.Path.{_≡_, refl, ap}
+use mathlib.Core.Path.{_≡_, refl}
 use mathlib.Core.Logic.{_≢_, _⊎_, inl, inr}
 use mathlib.Core.List.{List, []}
 use mathlib.Core.Bool.{true}
 use lib.ListN.{length}
 use Rattle.format.specs.Ast.{Condition, Term, Call, Tree, MacroBody, MacroDef}
 use Rattle.format.specs.Flat.{lengthArgs, flatCondition, flatTerm, flatTree, flatCall, flatDef}
-use Rattle.format.specs.Limits.{tooLargeTree}
+use Rattle.format.specs.Limits.{nodeWeight, callWeight, deepBody, tooLargeTree}
 use Rattle.format.specs.Tape.{definitionRoot, callRoot}
 use Rattle.definition.specs.Outcome.{Outcome, openOutcome}
 use Rattle.definition.specs.Substitute.{
@@ -25,8 +25,8 @@ use Rattle.definition.specs.Substitute.{
 }
 use Rattle.tape.specs.declared.layout.Layout.{Layout}
 use Rattle.tape.specs.declared.layout.Place.{Place}
-use Rattle.tape.proofs.Located.{Inside, accepted-inside}
-use Rattle.tape.proofs.Roots.{Accepted, call-root, definition-root, few-params, small-nesting}
+use Rattle.tape.proofs.Located.{Inside, Alone}
+use Rattle.tape.proofs.Roots.{few-params, nesting-64}
 use Rattle.area.specs.Area.{Area, fitsArea}
 use Rattle.walk_state.specs.Writing.{Progress}
 use Rattle.subst_places.specs.Parameters.{Tapes}
@@ -68,21 +68,21 @@ is-cedar MacroBody.Cedar = inl refl
 is-cedar (MacroBody.TemporalCondition c) = inr λ e. let z : _≡_ {A = ℕ} 0 1 = cc in omega arith
 is-cedar (MacroBody.TemporalValue t) = inr λ e. let z : _≡_ {A = ℕ} 0 1 = cc in omega arith
 
-pub substitution-matches : (limit : ℕ) {def call : List ℕ} {l c : Layout} (dm : MacroDef) (cl : Call) → Accepted definitionRoot def l dm
-    → Accepted callRoot call c cl
+pub substitution-matches : (limit : ℕ) {def call : List ℕ} {l c : Layout} (dm : MacroDef) (cl : Call) → Alone definitionRoot def l dm
+    → Alone callRoot call c cl
     → (bytes : List ℕ) → 12288 ≤ length bytes
     → let X : Progress = tapesIn def l call c limit bytes in OutcomeMatches def l call c (X .walk) (X .bytes) (substitute limit dm cl)
 unfolding definitionRoot callRoot substitute substituteBody OutcomeMatches openOutcome
 substitution-matches limit {def} {call} {l} {c} dm (Call.MacroCall span name args) h g bytes room = by-kind (is-cedar (dm .body))
   where
     d : Inside def l origin (flatDef dm)
-    d = accepted-inside definition-root h
+    d = h .inside
 
     i : Inside call c origin (flatCall (Call.MacroCall span name args))
-    i = accepted-inside call-root g
+    i = g .inside
 
     whole : l .entries ≡ length (flatDef dm)
-    whole = ap (λ (m : Layout). m .entries) (h .layout-is)
+    whole = h .entries-are
 
     go : {T : Tapes} {P : Area} {X : Progress} {end : Place} (o : Outcome Tree) → substitute limit dm (Call.MacroCall span name args) ≡ o
         → WalkMatches T flatTree P [] X end o → OutcomeMatches (T .definition) (T .maps .definition) call c (X .walk) (X .bytes) o
@@ -95,4 +95,5 @@ substitution-matches limit {def} {call} {l} {c} dm (Call.MacroCall span name arg
     by-kind (inl e) = rw (tapes-cedar dm span name args limit d i whole bytes e, e) (refl, cedar-refusal-matches dm span name args limit d i whole)
     by-kind (inr n) =
         go (substitute limit dm (Call.MacroCall span name args)) refl
-        (tapes-matches dm span name args limit d i whole n (few-params dm (h .small)) (small-nesting dm (h .small)) bytes room)
+        (tapes-matches dm span name args limit d i whole n (few-params dm (h .few))
+        (nesting-64 (deepBody nodeWeight (dm .body)) (deepBody callWeight (dm .body)) (h .depths)) bytes room)

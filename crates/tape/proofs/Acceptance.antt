@@ -1,5 +1,4 @@
--- Acceptance is reading, by any table that is well made: what the scan of a slice answers is what format's `read` gives, for every list of
--- bytes.
+-- Acceptance, by any table that is well made: what the scan of a slice answers is what format's `accept` gives, for every list of bytes.
 -- Assumes nothing.
 use Prim.Native.Nat.{ℕ, _+_, _*_, _≤_, _<_}
 use mathlib.Core.Path.{_≡_, refl, ap, sym, _∙_}
@@ -13,9 +12,11 @@ use lib.Dec.{T, leb, eqb, leb→le, le→leb, eqb→eq}
 use lib.ListN.{length, take, drop, length-drop, length-append}
 use lib.Seq.{drop-drop}
 use Rattle.format.specs.Entry.{Text, Entry, textOf}
-use Rattle.format.specs.Limits.{fitsSizes}
+use Rattle.format.specs.Limits.{nodeWeight, callWeight, fitsSizes, fitsDepths}
+use Rattle.format.specs.Macro.{tally}
+use Rattle.format.specs.Rewritten.{weighted}
 use Rattle.format.specs.Build.{Stack, build}
-use Rattle.format.specs.Tape.{Reading, split, readTexts, readSections, readSizes, readTape, Root, readLimits, readRoot, readStack, readTree, read, Bytes}
+use Rattle.format.specs.Tape.{Reading, split, readTexts, readSections, readSizes, readTape, Root, small, readLimits, readRoot, readStack, readTree, accept, Bytes}
 use Rattle.format.specs.Utf8.{wellFormed, wellTexts}
 use Rattle.format.proofs.Accepted.{Values64}
 use Rattle.format.proofs.All.{all-map}
@@ -23,9 +24,10 @@ use Rattle.format.proofs.Builds.{Rooted}
 use Rattle.format.proofs.Encodes.{WellTexted}
 use Rattle.format.proofs.Spells.{Spells, s-at-root, build-spells}
 use Rattle.format.proofs.Utf8.{all-whole, whole-all}
-use Rattle.tape.specs.Accept.{judged, acceptIn, afterOpen, acceptBy}
+use Rattle.tape.specs.Accept.{figured, judged, acceptIn, afterOpen, acceptBy}
 use Rattle.tape.specs.Header.{entriesOf, sizeOf}
-use Rattle.tape.specs.Layouts.{tapeLayout, entriesAt}
+use Rattle.tape.specs.Layouts.{holds, tapeLayout, entriesAt}
+use Rattle.tape.specs.Ors.{orsFrom, rewrittenCount}
 use Rattle.tape.specs.Pick.{pick}
 use Rattle.grammar.specs.Waits.{wait, isLimited}
 use Rattle.grammar.proofs.Marks.{Table}
@@ -36,7 +38,8 @@ use Rattle.tape.specs.declared.layout.Layout.{Layout}
 use Rattle.tape.specs.declared.layout.Place.{Place}
 use Rattle.tape.specs.declared.scan.Scanned.{Scanned}
 use Rattle.tape.specs.declared.scan.Scanned.the-variants.{Ends, Malformed}
-use Rattle.tape.proofs.Holding.{starting}
+use Rattle.tape.proofs.Counting.{entries-ors}
+use Rattle.tape.proofs.Holding.{holding, starting}
 use Rattle.tape.proofs.Found.{Language, found, took-all}
 use Rattle.tape.proofs.Passing.{PassesBy, Keeps, TextsPass, shortIn, reported}
 use Rattle.tape.proofs.Places.{widthsOf, widths-texted, entries-texted, split-entries, values-64, eq→eqb}
@@ -44,7 +47,8 @@ use Rattle.format.proofs.Tests.{and-left, and-right, and-both, is-true, from-tr
 use Rattle.tape.proofs.Turns.{length-entries}
 use Rattle.tape.proofs.Typed.{temporal-trees}
 
--- What a root of format has to do with a sort: its trees are those of the sort, and its limits are those of the scan.
+-- What a root of format has to do with a sort: its trees are those of the sort, and its limits are those of the scan and of the entries that
+-- there are once Ors are rewritten.
 pub record RootBy {t : Table} (trees : Language t) (longest : ℕ) {A : Type 0} (root : Root A) (sort : ℕ) : Type 0 where
   pub is-sort : sort < 32
   pub is-limited : isLimited longest ≡ true
@@ -52,22 +56,24 @@ pub record RootBy {t : Table} (trees : Language t) (longest : ℕ) {A : Type 0} 
   pub spelled : (x : trees .Tree sort) → root .flat (tree x) ≡ trees .spell sort x
   pub sound : Spells (root .flat) [] (root .reader)
   pub rooted : (a : A) → Rooted root a
-  pub deep : A → (ℕ → Bool) → ℕ
+  pub deep : A → (ℕ → ℕ) → ℕ
   pub listed : A → Bool
   pub passes : (a : A) → PassesBy t (sort ∷ []) (root .flat a) (deep a) (listed a)
-  pub short : (es : List Entry) → shortIn (t .words) longest es ≡ root .texts es
-  pub limits : (a : A) → (leb (deep a (t .nodes)) 64 && (leb (deep a (t .calls)) 4 && listed a)) ≡ root .small a
+  pub short : (a : A) → length (root .flat a) ≤ 1024
+      → (shortIn (t .words) longest (root .flat a) && leb (length (root .flat a) + 3 * tally 2 (root .flat a)) 1024) ≡ root .texts (root .flat a)
+  pub limits : (a : A) → (leb (deep a (t .nodes (isLimited longest))) 64 && (leb (deep a (t .calls)) 4 && listed a))
+      ≡ (fitsDepths (root .deep nodeWeight a) (root .deep callWeight a) && root .few a)
 
--- by the table of document 01, where 64 bytes of text are the most
+-- by the table of document 01, where 64 bytes of text are the most, with the figures of the rewritten tape
 abbrev pub RootOf : {A : Type 0} → Root A → ℕ → Type 0
-RootOf root sort = RootBy temporal-trees 64 root sort
+RootOf root sort = RootBy temporal-trees 64 (weighted root) sort
 
 -- ------------------------------------------------------------------ the tree of some entries
 
 -- what is read from entries: 2 where they spell no tree, and else whether it keeps to the limits
 data Parsed {A : Type 0} (root : Root A) (es : List Entry) : Reading A → Type 0 where
   no-tree : ((a : A) → root .flat a ≡ es → ⊥) → Parsed root es Reading.malformed
-  a-tree : (a : A) → root .flat a ≡ es → Parsed root es (readLimits (root .texts es && root .small a) a)
+  a-tree : (a : A) → root .flat a ≡ es → Parsed root es (readLimits (small root es a) a)
 
 -- What an accepted slice holds: the tree's entries, their values 64 bits each, its texts well-formed, its sizes and its tree within the limits.
 pub record Holds {A : Type 0} (root : Root A) (s : List ℕ) (a : A) : Type 0 where
@@ -77,7 +83,7 @@ pub record Holds {A : Type 0} (root : Root A) (s : List ℕ) (a : A) : Type 0 wh
   pub sized : length s ≡ 8 + 9 * entriesOf s + sizeOf s
   pub fitting : T (fitsSizes (entriesOf s) (sizeOf s))
   pub well : T (wellTexts (root .flat a))
-  pub keeping : T (root .texts (root .flat a) && root .small a)
+  pub keeping : T (small root (root .flat a) a)
 
 -- the answer to a reading
 pub data Answers {A : Type 0} (root : Root A) (s : List ℕ) : Opened → Reading A → Type 0 where
@@ -118,17 +124,25 @@ module _ (longest : ℕ) (limited : isLimited longest ≡ true) where
   from-texts h = whole-all (all-map (λ e w. rw (passes-well (e .text)) at w) h)
 
 -- a scan that did not use up entries and text is a refusal
-judged-else : (l : Layout) (x : Scanned) → ((p : Place) (o : Bool) → x ≡ Ends p o → p .at ≡ l .entries → p .text ≡ l .size → ⊥)
-    → judged l x ≡ Refused 2
-judged-else l Malformed not-all = refl
-judged-else l (Ends p o) not-all =
+judged-else : (s : List ℕ) (l : Layout) (x : Scanned) → ((p : Place) (o : Bool) → x ≡ Ends p o → p .at ≡ l .entries → p .text ≡ l .size → ⊥)
+    → judged s l x ≡ Refused 2
+judged-else s l Malformed not-all = refl
+judged-else s l (Ends p o) not-all =
     go (eqb (p .at) (l .entries)) (eqb (p .text) (l .size)) (eqb-true (p .at) (l .entries)) (eqb-true (p .text) (l .size))
   where
     go : (a b : Bool) → (a ≡ true → p .at ≡ l .entries) → (b ≡ true → p .text ≡ l .size)
-        → pick a (pick b (pick o (Refused 3) (Tape l)) (Refused 2)) (Refused 2) ≡ Refused 2
+        → pick a (pick b (figured s l o) (Refused 2)) (Refused 2) ≡ Refused 2
     go true true h g = absurd (not-all p o refl (h refl) (g refl))
     go true false h g = refl
     go false b h g = refl
+
+-- the scan's figures and that of the rewritten entries are the limits
+both-figures : (short few rest : Bool) (x y : Opened)
+    → pick (not (short && rest)) x (pick few y x) ≡ pick (not ((short && few) && rest)) x y
+both-figures true true rest x y = refl
+both-figures true false true x y = refl
+both-figures true false false x y = refl
+both-figures false few rest x y = refl
 
 fits-entries : (n t : ℕ) → T (fitsSizes n t) → n ≤ 1024
 unfolding fitsSizes
@@ -164,7 +178,7 @@ module _ {t : Table} {trees : Language t} {longest : ℕ} {A : Type 0} {root : R
           next (some x) q = last (x .1) q
             where
               last : (more : Stack) → root .reader st ≡ some (x .0, more)
-                  → Parsed root es (elim more [ [] ↦ readLimits (root .texts es && root .small (x .0)) (x .0) | _∷_ i rest ↦ Reading.malformed ])
+                  → Parsed root es (elim more [ [] ↦ readLimits (small root es (x .0)) (x .0) | _∷_ i rest ↦ Reading.malformed ])
               last [] q = (a-tree (x .0) (s-at-root (r .sound) st (x .0) q ∙ build-spells es st b))
               last (i ∷ rest) q =
                   no-tree (λ a e.
@@ -174,36 +188,44 @@ module _ {t : Table} {trees : Language t} {longest : ℕ} {A : Type 0} {root : R
 
   -- ---------------------------------------------------------------- the scan of all entries
 
-  -- the scan says what the limits say
-  over-is : (a : A) → r .passes a .over longest 0 0 ≡ not (root .texts (root .flat a) && root .small a)
+  -- the scan says what the limits on depths and texts say
+  over-is : (a : A) → r .passes a .over longest 0 0
+      ≡ not (shortIn (t .words) longest (root .flat a) && (fitsDepths (root .deep nodeWeight a) (root .deep callWeight a) && root .few a))
   over-is a =
       let es = root .flat a in
-      rw (← (r .limits a), ← (r .short es))
-      (reported (shortIn (t .words) longest es && (leb (r .deep a (t .nodes)) 64 && (leb (r .deep a (t .calls)) 4 && r .listed a)))
+      let nodes = r .deep a (t .nodes (isLimited longest)) in
+      rw (← (r .limits a))
+      (reported (shortIn (t .words) longest es && (leb nodes 64 && (leb (r .deep a (t .calls)) 4 && r .listed a)))
       (r .passes a .says longest 0 0 (omega arith) (omega arith)) (to-limits (t .words) longest (r .is-limited) es)
       (from-limits (t .words) longest (r .is-limited) es))
 
-  module _ (s : List ℕ) (l : Layout) (es : List Entry) (sized : l .entries ≡ length es) (filled : l .size ≡ widthsOf es) (w : WellTexted es) where
+  module _ (s : List ℕ) (l : Layout) (es : List Entry) (sized : l .entries ≡ length es) (filled : l .size ≡ widthsOf es) (w : WellTexted es)
+      (most : length es ≤ 1024) (counted : rewrittenCount s l ≡ length es + 3 * tally 2 es) where
     abbrev scanned : Scanned
     scanned = scanOf (t .words) longest (l .size) es (wait sort 0 0 ∷ []) 0 0 false
 
     -- the entries of a tree are passed over
-    judged-tree : T (wellTexts es) → (a : A) → root .flat a ≡ es → judged l scanned ≡ pick (not (root .texts es && root .small a)) (Refused 3) (Tape l)
+    judged-tree : T (wellTexts es) → (a : A) → root .flat a ≡ es → judged s l scanned ≡ pick (not (small root es a)) (Refused 3) (Tape l)
+    unfolding small
     judged-tree well a e =
         let p = r .passes a in
         let n : length (textOf (root .flat a)) ≡ l .size = ap (λ (x : List Entry). length (textOf x)) e ∙ sym (widths-texted w) ∙ sym filled in
         let k : length (root .flat a) ≡ l .entries = ap length e ∙ sym sized in
         let q = p .run longest (l .size) 0 0 [] [] 0 0 false (omega arith) (omega arith) (omega arith)
         (rw e (to-texts longest (r .is-limited) es well)) in
-        let z : scanned ≡ Ends (record { at = l .entries; text = l .size }) (not (root .texts es && root .small a)) =
+        let depths = fitsDepths (root .deep nodeWeight a) (root .deep callWeight a) && root .few a in
+        let short = shortIn (t .words) longest es in
+        let texts : (short && leb (length es + 3 * tally 2 es) 1024) ≡ root .texts es = rw e at (r .short a (rw e most)) in
+        let z : scanned ≡ Ends (record { at = l .entries; text = l .size }) (not (short && depths)) =
         ap (λ (x : List Entry). scanOf (t .words) longest (l .size) x (wait sort 0 0 ∷ []) 0 0 false) (sym e ∙ sym (append-nil (root .flat a)))
         ∙ q ∙ rw (zero-add, zero-add, k, n, over-is a, e) in
-        rw (z, eq-eqb (l .entries) (l .entries) refl, eq-eqb (l .size) (l .size) refl)
+        rw (z, eq-eqb (l .entries) (l .entries) refl, eq-eqb (l .size) (l .size) refl, counted, ← texts)
+        (both-figures short (leb (length es + 3 * tally 2 es) 1024) depths (Refused 3) (Tape l))
 
     -- where they spell no tree, the scan does not end behind them
-    judged-no-tree : ((a : A) → root .flat a ≡ es → ⊥) → judged l scanned ≡ Refused 2
+    judged-no-tree : ((a : A) → root .flat a ≡ es → ⊥) → judged s l scanned ≡ Refused 2
     judged-no-tree not-one =
-        judged-else l scanned (λ p o h e₁ e₂.
+        judged-else s l scanned (λ p o h e₁ e₂.
         let f = found trees longest (l .size) es (wait sort 0 0 ∷ []) 0 0 false p o w h in
         let x = f .trees-are .0 in
         let k = length-append (trees .spell sort x ++ []) (f .rest) in
@@ -245,7 +267,7 @@ module _ {t : Table} {trees : Language t} {longest : ℕ} {A : Type 0} {root : R
 
       -- the scan of a tape's entries answers what is read from its sections
       scan-reads : T (fitsSizes (entriesOf s) (sizeOf s))
-          → Answers root s (judged l (scanOf (t .words) longest (sizeOf s) es (wait sort 0 0 ∷ []) 0 0 false))
+          → Answers root s (judged s l (scanOf (t .words) longest (sizeOf s) es (wait sort 0 0 ∷ []) 0 0 false))
           (readTree root (readTexts (pick (eqb (widthsOf es) (sizeOf s)) (some es) none)))
       unfolding es readTexts readTree readLimits
       scan-reads fit = go (eqb (widthsOf es) (sizeOf s)) (eqb-true (widthsOf es) (sizeOf s)) (eqb-false (widthsOf es) (sizeOf s))
@@ -259,7 +281,17 @@ module _ {t : Table} {trees : Language t} {longest : ℕ} {A : Type 0} {root : R
           texted : widthsOf es ≡ sizeOf s → WellTexted es
           texted e = entries-texted t s l (entriesOf s) 0 0 (omega arith)
 
-          limited : widthsOf es ≡ sizeOf s → T (wellTexts es) → (a : A) → root .flat a ≡ es → (b : Bool) → (root .texts es && root .small a) ≡ b
+          most-es : length es ≤ 1024
+          most-es = omega (arith, k)
+
+          counted : rewrittenCount s l ≡ length es + 3 * tally 2 es
+          counted =
+              let h : holds s l ≡ true =
+              is-true (holding s l (record { entries-most = most; codes-held = omega arith; values-held = omega arith })) in
+              let ors : orsFrom s l 0 ≡ tally 2 es = rw (sub-zero (entriesOf s)) (entries-ors (t .words) s l (entriesOf s) 0 0 (omega arith)) in
+              rw h (omega (arith, k, ors))
+
+          limited : widthsOf es ≡ sizeOf s → T (wellTexts es) → (a : A) → root .flat a ≡ es → (b : Bool) → small root es a ≡ b
               → Answers root s (pick (not b) (Refused 3) (Tape l)) (readLimits b a)
           limited e well a x false q = answers-3
           limited e well a x true q =
@@ -277,26 +309,26 @@ module _ {t : Table} {trees : Language t} {longest : ℕ} {A : Type 0} {root : R
               })
               (rw (n, m))
 
-          told : widthsOf es ≡ sizeOf s → T (wellTexts es) → (o : Reading A) → Parsed root es o → Answers root s (judged l scanned) o
-          told e well Reading.malformed (no-tree x) = rw (judged-no-tree s l es (sym k) (sym e) (texted e) x) answers-2
+          told : widthsOf es ≡ sizeOf s → T (wellTexts es) → (o : Reading A) → Parsed root es o → Answers root s (judged s l scanned) o
+          told e well Reading.malformed (no-tree x) = rw (judged-no-tree s l es (sym k) (sym e) (texted e) most-es counted x) answers-2
           told e well o (a-tree a x) =
-              rw (judged-tree s l es (sym k) (sym e) (texted e) well a x) (limited e well a x (root .texts es && root .small a) refl)
+              rw (judged-tree s l es (sym k) (sym e) (texted e) most-es counted well a x) (limited e well a x (small root es a) refl)
 
           -- a scan that ends behind them all took each text
           welled : widthsOf es ≡ sizeOf s → (b : Bool) → wellTexts es ≡ b
-              → Answers root s (judged l scanned) (readTree root (elim b [ true ↦ Reading.accepted es | false ↦ Reading.malformed ]))
+              → Answers root s (judged s l scanned) (readTree root (elim b [ true ↦ Reading.accepted es | false ↦ Reading.malformed ]))
           welled e true q = told e (from-true q) (readStack root es (build es)) (parsed es)
           welled e false q =
-              rw (judged-else l scanned (λ p o h e₁ e₂.
+              rw (judged-else s l scanned (λ p o h e₁ e₂.
               let all = took-all t longest (sizeOf s) es (wait sort 0 0 ∷ []) 0 0 false p o h (omega (arith, k)) in
               rw q at (from-texts longest (r .is-limited) (all .texts-pass))))
               answers-2
 
           go : (b : Bool) → (b ≡ true → widthsOf es ≡ sizeOf s) → (b ≡ false → widthsOf es ≡ sizeOf s → ⊥)
-              → Answers root s (judged l scanned) (readTree root (readTexts (pick b (some es) none)))
+              → Answers root s (judged s l scanned) (readTree root (readTexts (pick b (some es) none)))
           go true h g = welled (h refl) (wellTexts es) refl
           go false h g =
-              rw (judged-else l scanned (λ p o q e₁ e₂.
+              rw (judged-else s l scanned (λ p o q e₁ e₂.
               g refl (omega (arith, took-all t longest (sizeOf s) es (wait sort 0 0 ∷ []) 0 0 false p o q (omega (arith, k)) .text-ends))))
               answers-2
 
@@ -305,9 +337,9 @@ module _ {t : Table} {trees : Language t} {longest : ℕ} {A : Type 0} {root : R
           (split (take (entriesOf s) (drop 8 s)) (take (8 * entriesOf s) (drop (entriesOf s) (drop 8 s))) (drop (9 * entriesOf s) (drop 8 s)))))
       sections-answer fit = rw (scan-is, sections-are) (scan-reads fit)
 
-  -- Acceptance answers what is read, for every list of bytes.
-  pub answers : (s : List ℕ) → Answers root s (acceptBy (t .words) longest s sort) (read root s)
-  unfolding read readTape readSizes readSections readTree
+  -- The code's acceptance answers what format's gives, for every list of bytes.
+  pub answers : (s : List ℕ) → Answers root s (acceptBy (t .words) longest s sort) (accept root s)
+  unfolding accept readTape readSizes readSections readTree
   answers s = long (leb 8 (length s)) (leb→le 8 (length s))
     where
       n : ℕ

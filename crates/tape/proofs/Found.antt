@@ -97,7 +97,7 @@ module _ {t : Table} (trees : Language t) where
         record { trees-are = tt; rest = e ∷ es; split = refl; ends = ap (λ (q : Place). q .at) (same-place h) ∙ sym (add-zero at) }
     found (e ∷ es) (c ∷ st) at text over p o (all-cons wide w) h =
         go lets-in refl h
-        (found es (below c head ++ st) (at + 1) (text + head .text) (over || exceeds longest c head) p o w)
+        (found es (below longest c head ++ st) (at + 1) (text + head .text) (over || exceeds longest c head) p o w)
       where
         head : Head
         head = headOf (t .words) (c .sort) (e .code) (e .value)
@@ -125,13 +125,13 @@ module _ {t : Table} (trees : Language t) where
             }
 
         go : (b : Bool) → lets-in ≡ b → {s : Scanned} → pick b s Malformed ≡ Ends p o
-            → (s ≡ Ends p o → Found es (sortsWaited (below c head ++ st)) (at + 1) p)
+            → (s ≡ Ends p o → Found es (sortsWaited (below longest c head ++ st)) (at + 1) p)
             → Found (e ∷ es) (c .sort ∷ sortsWaited st) at p
         go false a h next = never h
         go true a h next =
             let i = inSort (sortAt (t .words) (c .sort)) (e .code) in
             let u = and-left (accepts (length es) (size - text) head) _ (from-true a) in
-            let n = deeper (c .nesting) head in
+            let n = deeper longest (c .nesting) head in
             let k = enclosed (c .calls) head in
             grown (is-true (and-both i _ (and-left i _ u)
             (and-left (valued (valuesOf (rowAt (t .words) (e .code))) (e .value)) _ (and-right i _ u))))
@@ -151,7 +151,7 @@ module _ (t : Table) (longest size : ℕ) where
   took-all (x ∷ es) [] at text over p o h e = let z = ap (λ (q : Place). q .at) (same-place h) in absurd (omega arith)
   took-all (x ∷ es) (c ∷ st) at text over p o h e =
       go lets-in refl h
-      (λ g. took-all es (below c head ++ st) (at + 1) (text + head .text) (over || exceeds longest c head) p o g (omega arith))
+      (λ g. took-all es (below longest c head ++ st) (at + 1) (text + head .text) (over || exceeds longest c head) p o g (omega arith))
     where
       head : Head
       head = headOf (t .words) (c .sort) (x .code) (x .value)

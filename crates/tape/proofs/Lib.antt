@@ -1,5 +1,6 @@
 pub mod Located
 pub mod Holding
+pub mod Counting
 mod Parts
 mod Moves
 mod Turns

@@ -5,15 +5,19 @@ use native.Mathlib.Omega.{arith}
 use mathlib.Core.Path.{_≡_, refl, sym, ap, _∙_}
 use mathlib.Core.List.{List, [], _∷_, _++_}
 use mathlib.Core.Bool.{Bool}
+use lib.Dec.{T}
 use lib.ListN.{length, take, drop, length-append}
 use lib.Seq.{slice, drop-at, take-add, length-take-le}
 use Rattle.definition.specs.Size.{size}
 use Rattle.format.specs.Entry.{Entry, codesOf, valuesOf, textOf}
 use Rattle.format.specs.Stands.{part, Spells}
+use Rattle.format.specs.Limits.{nodeWeight, callWeight, fitsDepths}
+use Rattle.format.specs.Rewritten.{weighted}
 use Rattle.format.specs.Tape.{Root}
 use Rattle.format.proofs.Accepted.{length-codes}
 use Rattle.format.proofs.All.{all-left, all-right}
 use Rattle.format.proofs.Encodes.{WellTexted, length-values}
+use Rattle.format.proofs.Rewritten.{Rewrites, lighter}
 use Rattle.tape.specs.Layouts.{onward, sizeBetween}
 use Rattle.tape.specs.Scan.{skipAt}
 use Rattle.tape.specs.declared.layout.Layout.{Layout}
@@ -59,7 +63,25 @@ pub record Inside (s : List ℕ) (l : Layout) (p : Place) (es : List Entry) : Ty
 -- the tree of an accepted slice, at its start
 pub accepted-inside : {A : Type 0} {root : Root A} {sort : ℕ} {s : List ℕ} {l : Layout} {a : A} → RootOf root sort → Accepted root s l a
     → Inside s l (place 0 0) (root .flat a)
+unfolding weighted
 accepted-inside {a = a} r h = record { run = h .run; texted = r .passes a .texted }
+
+-- A tree alone in a layout, within the largest figures: that of an accepted tape, as it was given or rewritten.
+pub record Alone {A : Type 0} (root : Root A) (s : List ℕ) (l : Layout) (a : A) : Type 0 where
+  pub inside : Inside s l (place 0 0) (root .flat a)
+  pub entries-are : l .entries ≡ length (root .flat a)
+  pub depths : T (fitsDepths (root .deep nodeWeight a) (root .deep callWeight a))
+  pub few : T (root .few a)
+
+pub accepted-alone : {A : Type 0} {root : Root A} {sort : ℕ} {s : List ℕ} {l : Layout} {a : A} → RootOf root sort → Rewrites root
+    → Accepted root s l a → Alone root s l a
+accepted-alone {root = root} {a = a} r w h =
+    record {
+      inside = accepted-inside r h;
+      entries-are = ap (λ (m : Layout). m .entries) (h .layout-is);
+      depths = lighter root w a (h .depths);
+      few = h .few;
+    }
 
 module _ {s : List ℕ} {l : Layout} {p : Place} where
   -- two runs: the first at the place, the second behind it
@@ -100,7 +122,7 @@ module _ {s : List ℕ} {l : Layout} {p : Place} {es : List Entry} (i : Inside s
       }
 
   -- to skip a tree is to come to the place behind it
-  pub inside-skip : {sort : ℕ} {d : (ℕ → Bool) → ℕ} {x : Bool} → Passes (sort ∷ []) es d x → sort < 32 → skipAt s l p sort ≡ At (past es p)
+  pub inside-skip : {sort : ℕ} {d : (ℕ → ℕ) → ℕ} {x : Bool} → Passes (sort ∷ []) es d x → sort < 32 → skipAt s l p sort ≡ At (past es p)
   inside-skip b h = skip-run b h (i .run) ∙ ap At (sym (past-place es p))
 
   pub inside-size : sizeBetween s l (p .at) (past es p .at) ≡ size es

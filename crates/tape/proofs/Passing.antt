@@ -10,14 +10,13 @@ use native.Mathlib.Omega.{arith}
 use lib.Dec.{T, leb, ltb, leb→le, le→leb, ltb→lt, nltb→le, not-T, T-not}
 use lib.ListN.{length, length-append, length-replicate}
 use Rattle.format.specs.Entry.{Entry, textOf}
-use Rattle.format.specs.Limits.{weigh}
 use Rattle.format.specs.Tape.{isText, textWidth}
 use Rattle.format.proofs.All.{All, all-nil, all-cons, all-head, all-tail, all-append, all-left, all-right}
 use Rattle.format.proofs.Encodes.{WellTexted}
 use Rattle.format.proofs.Stands.{text-append}
 use Rattle.grammar.specs.Grammar.{Follows, once, each, sortsOf}
-use Rattle.grammar.specs.Words.{sortAt, rowAt, inSort, isFew, valuesOf, nestingOf, callsOf, followsIn, followsOf, longestOf}
-use Rattle.grammar.specs.Waits.{Wait, wait, waits, headOf, valued, counted, accepts, deeper, enclosed, isLimited, passes, exceeds}
+use Rattle.grammar.specs.Words.{sortAt, rowAt, inSort, isFew, valuesOf, callsOf, followsIn, followsOf, longestOf}
+use Rattle.grammar.specs.Waits.{Wait, wait, waits, headOf, valued, counted, accepts, isLimited, nestsBy, deeper, enclosed, passes, exceeds}
 use Rattle.grammar.specs.declared.entry.Head.{Head}
 use Rattle.grammar.proofs.Marks.{Table, temporal}
 use Rattle.tape.specs.Scan.{scanOf, textPasses}
@@ -114,8 +113,8 @@ pub any-pass : (es : List Entry) → TextsPass 0 es
 any-pass [] = all-nil
 any-pass (e ∷ es) = all-cons tt (any-pass es)
 
--- A run of entries of the sorts ss, with d p entries that pass the test p on a path.
-pub record PassesBy (t : Table) (ss : List ℕ) (es : List Entry) (d : (ℕ → Bool) → ℕ) (listed : Bool) : Type 0 where
+-- A run of entries of the sorts ss, the heaviest path through which weighs d w, each entry on it weighed by w.
+pub record PassesBy (t : Table) (ss : List ℕ) (es : List Entry) (d : (ℕ → ℕ) → ℕ) (listed : Bool) : Type 0 where
   pub texted : WellTexted es
   pub long : length ss ≤ length es
   pub over : ℕ → ℕ → ℕ → Bool
@@ -124,10 +123,10 @@ pub record PassesBy (t : Table) (ss : List ℕ) (es : List Entry) (d : (ℕ → 
       → scanOf (t .words) longest size (es ++ rest) (waits n k ss ++ st) at text o
       ≡ scanOf (t .words) longest size rest st (at + length es) (text + length (textOf es)) (o || over longest n k)
   pub says : (longest n k : ℕ) → n ≤ 64 → k ≤ 4
-      → Reports (over longest n k) (Keeps (t .words) longest n k (d (t .nodes)) (d (t .calls)) listed es)
+      → Reports (over longest n k) (Keeps (t .words) longest n k (d (t .nodes (isLimited longest))) (d (t .calls)) listed es)
 
 -- by the table of document 01
-abbrev pub Passes : List ℕ → List Entry → ((ℕ → Bool) → ℕ) → Bool → Type 0
+abbrev pub Passes : List ℕ → List Entry → ((ℕ → ℕ) → ℕ) → Bool → Type 0
 Passes ss es d listed = PassesBy temporal ss es d listed
 
 moved : (g : List ℕ) (longest size : ℕ) (rest : List Entry) (st : List Wait) {at at′ text text′ : ℕ} {o o′ : Bool}
@@ -135,7 +134,7 @@ moved : (g : List ℕ) (longest size : ℕ) (rest : List Entry) (st : List Wait)
 moved g longest size rest st p q r = rw (p, q, r)
 
 -- nothing
-pub none : {t : Table} → PassesBy t [] [] (λ p. 0) true
+pub none : {t : Table} → PassesBy t [] [] (λ w. 0) true
 unfolding textOf
 none {t} =
     record {
@@ -160,9 +159,9 @@ waits-append n k [] ts st = refl
 waits-append n k (s ∷ ss) ts st = ap (λ (l : List Wait). wait s n k ∷ l) (waits-append n k ss ts st)
 
 -- one run behind another
-module _ {t : Table} {ss ts : List ℕ} {es fs : List Entry} {d g : (ℕ → Bool) → ℕ} {x y : Bool} where
+module _ {t : Table} {ss ts : List ℕ} {es fs : List Entry} {d g : (ℕ → ℕ) → ℕ} {x y : Bool} where
   infixr 20 _then_
-  pub _then_ : PassesBy t ss es d x → PassesBy t ts fs g y → PassesBy t (ss ++ ts) (es ++ fs) (λ p. max (d p) (g p)) (x && y)
+  pub _then_ : PassesBy t ss es d x → PassesBy t ts fs g y → PassesBy t (ss ++ ts) (es ++ fs) (λ w. max (d w) (g w)) (x && y)
   _then_ a b =
       record {
         texted = all-append (a .texted) (b .texted);
@@ -247,10 +246,10 @@ module _ (t : Table) (s : ℕ) (e : Entry) (ok : allowed (t .words) s e ≡ true
       rw width (ap (λ (b : Bool). b && shortIn (t .words) longest es) (sym (not-ltb (longestOf longest (head .row)) (head .text))))
   short-entry false longest es = refl
 
-  module _ {es : List Entry} {d : (ℕ → Bool) → ℕ} {x : Bool} (b : PassesBy t (sortsBelow (t .words) s e) es d x) where
+  module _ {es : List Entry} {d : (ℕ → ℕ) → ℕ} {x : Bool} (b : PassesBy t (sortsBelow (t .words) s e) es d x) where
     entry-says : (longest n k : ℕ) → n ≤ 64 → k ≤ 4
-        → Reports (exceeds longest (wait s n k) head || b .over longest (deeper n head) (enclosed k head))
-        (Keeps (t .words) longest n k (weigh (t .nodes (e .code)) + d (t .nodes)) (weigh (t .calls (e .code)) + d (t .calls))
+        → Reports (exceeds longest (wait s n k) head || b .over longest (deeper longest n head) (enclosed k head))
+        (Keeps (t .words) longest n k (t .nodes (isLimited longest) (e .code) + d (t .nodes (isLimited longest))) (t .calls (e .code) + d (t .calls))
         (listedAt (t .words) s (e .value) && x) (e ∷ es))
     entry-says longest n k h₁ h₂ =
         let z = isLimited longest in
@@ -258,13 +257,13 @@ module _ (t : Table) (s : ℕ) (e : Entry) (ok : allowed (t .words) s e ≡ true
         let short = short-entry z longest es in
         let many = isFew (head .sort) && ltb 16 (e .value) in
         let listed = asked-and z (not many) x ∙ ap (λ (b : Bool). b && asked z x) (asked-not z many) in
-        let node = t .nodes-are (e .code) in
+        let node = t .nodes-are z (e .code) in
         let call = t .calls-are (e .code) in
         reports-or
-        (paired (reports-figure 64 n (nestingOf (head .row)) h₁)
+        (paired (reports-figure 64 n (nestsBy longest head) h₁)
         (paired (reports-figure 4 k (callsOf (head .row)) h₂)
         (paired (reports-not (z && many)) (reports-not long))))
-        (b .says longest (deeper n head) (enclosed k head) (omega arith) (omega arith))
+        (b .says longest (deeper longest n head) (enclosed k head) (omega arith) (omega arith))
         (λ p q. record {
           nodes-keep = omega (arith, p .0, q .nodes-keep, node);
           calls-keep = omega (arith, p .1 .0, q .calls-keep, call);
@@ -285,13 +284,13 @@ module _ (t : Table) (s : ℕ) (e : Entry) (ok : allowed (t .words) s e ≡ true
           texts-keep = and-right (not long) _ (rw short at (r .texts-keep));
         })
 
-    entry-passes : PassesBy t (s ∷ []) (e ∷ es) (λ p. weigh (p (e .code)) + d p) (listedAt (t .words) s (e .value) && x)
+    entry-passes : PassesBy t (s ∷ []) (e ∷ es) (λ w. w (e .code) + d w) (listedAt (t .words) s (e .value) && x)
     unfolding textOf
     entry-passes =
         record {
           texted = all-cons wide (b .texted);
           long = omega arith;
-          over = λ longest n k. exceeds longest (wait s n k) head || b .over longest (deeper n head) (enclosed k head);
+          over = λ longest n k. exceeds longest (wait s n k) head || b .over longest (deeper longest n head) (enclosed k head);
           run = λ longest size n k st rest at text o h₁ h₂ h w.
               let c = counted-long (followsOf (head .follows)) (e .value) in
               let l = length-append es rest in
@@ -301,16 +300,17 @@ module _ (t : Table) (s : ℕ) (e : Entry) (ok : allowed (t .words) s e ≡ true
               let ok′ : (accepts (length (es ++ rest)) (size - text) head && textPasses longest (e .text)) ≡ true =
               is-true (and-both (accepts (length (es ++ rest)) (size - text) head) _ (from-true fits) (all-head w)) in
               rw ok′
-              (b .run longest size (deeper n head) (enclosed k head) st rest (at + 1) (text + head .text) (o || more) (omega arith)
+              (b .run longest size (deeper longest n head) (enclosed k head) st rest (at + 1) (text + head .text) (o || more) (omega arith)
               (omega arith) (omega (arith, width)) (all-tail w)
               ∙ moved (t .words) longest size rest st (omega arith) (omega (arith, width))
-              (or-assoc o more (b .over longest (deeper n head) (enclosed k head))));
+              (or-assoc o more (b .over longest (deeper longest n head) (enclosed k head))));
           says = entry-says;
         }
 
 module _ {t : Table} where
   -- the same with its depths said otherwise
-  deep-as : {ss : List ℕ} {es : List Entry} {d : (ℕ → Bool) → ℕ} {x : Bool} (g : (ℕ → Bool) → ℕ) → d (t .nodes) ≡ g (t .nodes)
+  deep-as : {ss : List ℕ} {es : List Entry} {d : (ℕ → ℕ) → ℕ} {x : Bool} (g : (ℕ → ℕ) → ℕ)
+      → ((limited : Bool) → d (t .nodes limited) ≡ g (t .nodes limited))
       → d (t .calls) ≡ g (t .calls) → PassesBy t ss es d x → PassesBy t ss es g x
   deep-as g p q b =
       record {
@@ -318,28 +318,32 @@ module _ {t : Table} where
         long = b .long;
         over = b .over;
         run = b .run;
-        says = λ longest n k h₁ h₂. rw (← p, ← q) (b .says longest n k h₁ h₂);
+        says = λ longest n k h₁ h₂. rw (← (p (isLimited longest)), ← q) (b .says longest n k h₁ h₂);
       }
 
   module _ (s : ℕ) (e : Entry) (ok : allowed (t .words) s e ≡ true) (wide : length (e .text) ≡ textWidth (isText (e .code)) (e .value))
       {es : List Entry} {x : Bool} where
-    pub node : {d : (ℕ → Bool) → ℕ} → PassesBy t (sortsBelow (t .words) s e) es d x
-        → PassesBy t (s ∷ []) (e ∷ es) (λ p. weigh (p (e .code)) + d p) (listedAt (t .words) s (e .value) && x)
+    pub node : {d : (ℕ → ℕ) → ℕ} → PassesBy t (sortsBelow (t .words) s e) es d x
+        → PassesBy t (s ∷ []) (e ∷ es) (λ w. w (e .code) + d w) (listedAt (t .words) s (e .value) && x)
     node b = entry-passes t s e ok wide b
 
     -- an entry with nothing deep below it
-    pub tip : PassesBy t (sortsBelow (t .words) s e) es (λ p. 0) x
-        → PassesBy t (s ∷ []) (e ∷ es) (λ p. weigh (p (e .code))) (listedAt (t .words) s (e .value) && x)
-    tip b = deep-as _ (omega arith) (omega arith) (node b)
+    pub tip : PassesBy t (sortsBelow (t .words) s e) es (λ w. 0) x
+        → PassesBy t (s ∷ []) (e ∷ es) (λ w. w (e .code)) (listedAt (t .words) s (e .value) && x)
+    tip b = deep-as _ (λ limited. omega arith) (omega arith) (node b)
 
     -- an entry that is no node and no call
-    pub plain : {d : (ℕ → Bool) → ℕ} → weigh (t .nodes (e .code)) ≡ 0 → weigh (t .calls (e .code)) ≡ 0
+    pub plain : {d : (ℕ → ℕ) → ℕ} → t .nodes true (e .code) ≡ 0 → t .calls (e .code) ≡ 0
         → PassesBy t (sortsBelow (t .words) s e) es d x
         → PassesBy t (s ∷ []) (e ∷ es) d (listedAt (t .words) s (e .value) && x)
-    plain {d} p q b = deep-as d (omega arith) (omega arith) (node b)
+    plain {d} p q b = deep-as d (λ limited. omega (arith, light limited)) (omega arith) (node b)
+      where
+        light : (limited : Bool) → t .nodes limited (e .code) ≡ 0
+        light true = p
+        light false = omega (arith, t .nodes-are true (e .code), t .nodes-are false (e .code), p)
 
   -- something behind a run in which nothing is deep
   infixr 20 _before_
-  pub _before_ : {ss ts : List ℕ} {es fs : List Entry} {g : (ℕ → Bool) → ℕ} {x y : Bool}
-      → PassesBy t ss es (λ p. 0) x → PassesBy t ts fs g y → PassesBy t (ss ++ ts) (es ++ fs) g (x && y)
-  _before_ {g = g} a b = deep-as g (omega arith) (omega arith) (a then b)
+  pub _before_ : {ss ts : List ℕ} {es fs : List Entry} {g : (ℕ → ℕ) → ℕ} {x y : Bool}
+      → PassesBy t ss es (λ w. 0) x → PassesBy t ts fs g y → PassesBy t (ss ++ ts) (es ++ fs) g (x && y)
+  _before_ {g = g} a b = deep-as g (λ limited. omega arith) (omega arith) (a then b)

@@ -1,19 +1,23 @@
 -- The four roots of document 01, and what an accepted slice holds.
 -- Assumes nothing.
-use Prim.Native.Nat.{ℕ, zero, suc, _+_, _*_, _≤_, _<_, max}
+use Prim.Native.Nat.{ℕ, suc, _+_, _*_, _≤_, _<_}
 use mathlib.Core.Path.{_≡_, refl, ap, sym, _∙_, subst}
-use mathlib.Core.Bool.{Bool, true, _&&_, and-true, and-assoc, and-comm}
+use mathlib.Core.Bool.{Bool, true, _&&_, and-assoc}
 use mathlib.Core.List.{List, [], _∷_}
 use native.Mathlib.Omega.{arith}
-use lib.Dec.{T, leb, leb→le, le→leb}
+use lib.Dec.{T, leb, leb→le}
 use lib.ListN.{length, getD}
 use Rattle.format.specs.Entry.{Entry, encode, textOf}
 use Rattle.format.specs.Ast.{MacroDef}
-use Rattle.format.specs.Limits.{isNode, isCall, deepCondition, deepCall, deepBody, fitsSizes, fitsDepths}
+use Rattle.format.specs.DeMorgan.{orWeight}
+use Rattle.format.specs.Limits.{nodeWeight, callWeight, deepCondition, deepCall, deepBody, deepBodies, fitsSizes, fitsDepths}
+use Rattle.format.specs.Macro.{tally}
+use Rattle.format.specs.Rewritten.{weighted}
 use Rattle.format.specs.Stands.{Stands}
-use Rattle.format.specs.Tape.{Reading, Root, smallBody, smallBodies, conditionRoot, callRoot, definitionRoot, registryRoot, shortTexts, read, Bytes}
+use Rattle.format.specs.Tape.{Reading, Root, conditionRoot, callRoot, definitionRoot, registryRoot, shortTexts, fewParams, fewParamsEach, small, accept, Bytes}
 use Rattle.format.proofs.Accepted.{Values64, InRange, accepted-on-tape}
-use Rattle.format.proofs.Builds.{rooted-condition, rooted-call, rooted-definition, rooted-registry}
+use Rattle.format.proofs.Builds.{Rooted, rooted-condition, rooted-call, rooted-definition, rooted-registry}
+use Rattle.format.proofs.Rewritten.{Rewrites}
 use Rattle.format.proofs.Spells.{s-condition-root, s-call, s-definition, s-registry-root}
 use Rattle.format.proofs.Stands.{stands-encoded}
 use Rattle.grammar.specs.Grammar as sort
@@ -28,8 +32,9 @@ use Rattle.tape.specs.declared.layout.Layout.{Layout}
 use Rattle.tape.proofs.Acceptance.{RootOf, Holds, Answers, answers-2, answers-3, answers-tape, answers}
 use Rattle.tape.proofs.Passing.{shortIn}
 use Rattle.tape.proofs.Runs.{place, Run}
-use Rattle.format.proofs.Tests.{and-left, and-right, and-both, same-test}
-use Rattle.tape.proofs.Trees.{passes-condition, passes-call, passes-definition, deepBodies, fewParams, passes-registry}
+use Rattle.format.proofs.Tests.{and-left, and-right}
+use Rattle.format.proofs.Weights.{or-calls, or-nodes}
+use Rattle.tape.proofs.Trees.{passes-condition, passes-call, passes-definition, passes-registry}
 
 -- the texts that are short by the table's marks are those that are short
 short-texts : (es : List Entry) → shortIn temporalWords 64 es ≡ shortTexts es
@@ -37,10 +42,25 @@ unfolding shortTexts
 short-texts [] = refl
 short-texts (e ∷ es) = rw (longest-marks (e .code), short-texts es)
 
--- ------------------------------------------------------------------ condition, call and definition
+-- ------------------------------------------------------------------ the four roots
+
+-- with the figures of the rewritten tape a root is built and taken as it was
+rooted-weighted : {A : Type 0} {root : Root A} {a : A} → Rooted root a → Rooted (weighted root) a
+unfolding weighted
+rooted-weighted h = record { stack = h .stack; built = h .built; taken = h .taken }
+
+short-entries : (es : List Entry) → (shortIn temporalWords 64 es && leb (length es + 3 * tally 2 es) 1024)
+    ≡ (shortTexts es && leb (length es + 3 * tally 2 es) 1024)
+short-entries es = ap (λ (b : Bool). b && leb (length es + 3 * tally 2 es) 1024) (short-texts es)
+
+depth-limits : (nodes : ℕ) (few : Bool) {calls calls′ : ℕ} → calls ≡ calls′
+    → (leb nodes 64 && (leb calls 4 && few)) ≡ (fitsDepths nodes calls′ && few)
+unfolding fitsDepths
+depth-limits nodes few {calls} {calls′} e =
+    ap (λ (k : ℕ). leb nodes 64 && (leb k 4 && few)) e ∙ sym (and-assoc (leb nodes 64) (leb calls′ 4) few)
 
 pub condition-root : RootOf conditionRoot sort.condition
-unfolding conditionRoot fitsDepths
+unfolding weighted conditionRoot
 condition-root =
     record {
       is-sort = omega arith;
@@ -48,16 +68,16 @@ condition-root =
       tree = λ x. x;
       spelled = λ x. refl;
       sound = s-condition-root;
-      rooted = rooted-condition;
-      deep = λ c p. deepCondition p c;
+      rooted = λ c. rooted-weighted (rooted-condition c);
+      deep = λ c w. deepCondition w c;
       listed = λ c. true;
       passes = passes-condition;
-      short = short-texts;
-      limits = λ c. ap (λ (b : Bool). leb (deepCondition isNode c) 64 && b) (and-true (leb (deepCondition isCall c) 4));
+      short = λ c h. short-entries (conditionRoot .flat c);
+      limits = λ c. depth-limits (deepCondition (orWeight nodeWeight) c) true (ap (λ (w : ℕ → ℕ). deepCondition w c) (sym or-calls));
     }
 
 pub call-root : RootOf callRoot sort.call
-unfolding callRoot fitsDepths
+unfolding weighted callRoot
 call-root =
     record {
       is-sort = omega arith;
@@ -65,16 +85,16 @@ call-root =
       tree = λ x. x;
       spelled = λ x. refl;
       sound = s-call;
-      rooted = rooted-call;
-      deep = λ c p. deepCall p c;
+      rooted = λ c. rooted-weighted (rooted-call c);
+      deep = λ c w. deepCall w c;
       listed = λ c. true;
       passes = passes-call;
-      short = short-texts;
-      limits = λ c. ap (λ (b : Bool). leb (deepCall isNode c) 64 && b) (and-true (leb (deepCall isCall c) 4));
+      short = λ c h. short-entries (callRoot .flat c);
+      limits = λ c. depth-limits (deepCall (orWeight nodeWeight) c) true (ap (λ (w : ℕ → ℕ). deepCall w c) (sym or-calls));
     }
 
 pub definition-root : RootOf definitionRoot sort.definition
-unfolding definitionRoot smallBody fitsDepths
+unfolding weighted definitionRoot fewParams
 definition-root =
     record {
       is-sort = omega arith;
@@ -82,56 +102,16 @@ definition-root =
       tree = λ x. x;
       spelled = λ x. refl;
       sound = s-definition;
-      rooted = rooted-definition;
-      deep = λ d p. deepBody p (d .body);
-      listed = λ d. leb (length (d .params)) 16;
+      rooted = λ d. rooted-weighted (rooted-definition d);
+      deep = λ d w. deepBody w (d .body);
+      listed = fewParams;
       passes = passes-definition;
-      short = short-texts;
-      limits = λ d.
-          let nodes = leb (deepBody isNode (d .body)) 64 in
-          let calls = leb (deepBody isCall (d .body)) 4 in
-          sym (and-assoc nodes calls (leb (length (d .params)) 16)) ∙ and-comm (nodes && calls) (leb (length (d .params)) 16);
+      short = λ d h. short-entries (definitionRoot .flat d);
+      limits = λ d. depth-limits (deepBody (orWeight nodeWeight) (d .body)) (fewParams d) (ap (λ (w : ℕ → ℕ). deepBody w (d .body)) (sym or-calls));
     }
 
--- ------------------------------------------------------------------ a registry
-
--- all bodies are small if the deepest is
-small-bodies : (ds : List MacroDef) → (leb (deepBodies isNode ds) 64 && (leb (deepBodies isCall ds) 4 && fewParams ds))
-    ≡ smallBodies ds
-unfolding deepBodies fewParams smallBodies smallBody fitsDepths
-small-bodies [] = refl
-small-bodies (d ∷ ds) =
-    let a = deepBody isNode (d .body) in
-    let a′ = deepBodies isNode ds in
-    let b = deepBody isCall (d .body) in
-    let b′ = deepBodies isCall ds in
-    let few = leb (length (d .params)) 16 in
-    rw (← (small-bodies ds))
-    (same-test
-    (λ t.
-    let u = and-right (leb (max a a′) 64) _ t in
-    let v = and-right (leb (max b b′) 4) _ u in
-    let p = leb→le (max a a′) 64 (and-left (leb (max a a′) 64) _ t) in
-    let q = leb→le (max b b′) 4 (and-left (leb (max b b′) 4) _ u) in
-    and-both (few && (leb a 64 && leb b 4)) _
-    (and-both few _ (and-left few _ v) (and-both (leb a 64) _ (le→leb a 64 (omega arith)) (le→leb b 4 (omega arith))))
-    (and-both (leb a′ 64) _ (le→leb a′ 64 (omega arith))
-    (and-both (leb b′ 4) _ (le→leb b′ 4 (omega arith)) (and-right few _ v))))
-    (λ t.
-    let u = and-left (few && (leb a 64 && leb b 4)) _ t in
-    let v = and-right (few && (leb a 64 && leb b 4)) _ t in
-    let w = and-right few _ u in
-    let x = and-right (leb a′ 64) _ v in
-    let p = leb→le a 64 (and-left (leb a 64) _ w) in
-    let p′ = leb→le a′ 64 (and-left (leb a′ 64) _ v) in
-    let q = leb→le b 4 (and-right (leb a 64) _ w) in
-    let q′ = leb→le b′ 4 (and-left (leb b′ 4) _ x) in
-    and-both (leb (max a a′) 64) _ (le→leb (max a a′) 64 (omega arith))
-    (and-both (leb (max b b′) 4) _ (le→leb (max b b′) 4 (omega arith))
-    (and-both few _ (and-left few _ u) (and-right (leb b′ 4) _ x)))))
-
 pub registry-root : RootOf registryRoot sort.definitions
-unfolding registryRoot
+unfolding weighted registryRoot
 registry-root =
     record {
       is-sort = omega arith;
@@ -139,46 +119,53 @@ registry-root =
       tree = λ x. x;
       spelled = λ x. refl;
       sound = s-registry-root;
-      rooted = rooted-registry;
-      deep = λ ds p. deepBodies p ds;
-      listed = fewParams;
+      rooted = λ ds. rooted-weighted (rooted-registry ds);
+      deep = λ ds w. deepBodies w ds;
+      listed = fewParamsEach;
       passes = passes-registry;
-      short = short-texts;
-      limits = small-bodies;
+      short = λ ds h. short-entries (registryRoot .flat ds);
+      limits = λ ds. depth-limits (deepBodies (orWeight nodeWeight) ds) (fewParamsEach ds) (ap (λ (w : ℕ → ℕ). deepBodies w ds) (sym or-calls));
     }
 
 -- ------------------------------------------------------------------ what an accepted slice holds
 
--- A slice that was accepted, its layout and its tree.
+-- A slice that was accepted, its layout and its tree as it was given: the figures are those of the rewritten tape.
 pub record Accepted {A : Type 0} (root : Root A) (s : List ℕ) (l : Layout) (a : A) : Type 0 where
-  pub reading : read root s ≡ Reading.accepted a
+  pub reading : accept (weighted root) s ≡ Reading.accepted a
   pub encoded : encode (root .flat a) ≡ s
   pub layout-is : l ≡ tapeLayout (length (root .flat a)) (length (textOf (root .flat a)))
   pub run : Run s l (place 0 0) (root .flat a)
   pub in-range : InRange (root .flat a)
   pub short : T (shortTexts (root .flat a))
-  pub small : T (root .small a)
+  pub entries-fit : length (root .flat a) + 3 * tally 2 (root .flat a) ≤ 1024
+  pub depths : T (fitsDepths (root .deep (orWeight nodeWeight) a) (root .deep callWeight a))
+  pub few : T (root .few a)
 
 module _ {A : Type 0} {root : Root A} {sort : ℕ} (r : RootOf root sort) (s : List ℕ) (bytes : Bytes s) where
-  held-tape : (a : A) → read root s ≡ Reading.accepted a → Holds root s a
+  held-tape : (a : A) → accept (weighted root) s ≡ Reading.accepted a → Holds (weighted root) s a
       → Accepted root s (tapeLayout (length (root .flat a)) (length (textOf (root .flat a)))) a
-  unfolding fitsSizes
+  unfolding weighted small fitsSizes
   held-tape a e h =
       let es = root .flat a in
-      let whole : encode es ≡ s = accepted-on-tape root (r .sound) s bytes a e .encoded in
+      let whole : encode es ≡ s = accepted-on-tape (weighted root) (r .sound) s bytes a e .encoded in
       let n = h .entries-count in
       let t = h .text-count in
       let l = tapeLayout (length es) (length (textOf es)) in
       let values : Values64 es = h .values-are bytes in
       let stands : Stands s 8 (8 + length es) (8 + 9 * length es) 0 0 es = rw whole at (stands-encoded es) in
       let fit : T (fitsSizes (length es) (length (textOf es))) = rw (n, t) (h .fitting) in
+      let most = leb→le (length es) 1024 (and-left (leb (length es) 1024) _ fit) in
+      let texts = and-left (weighted root .texts es) _ (h .keeping) in
+      let rest = and-right (weighted root .texts es) _ (h .keeping) in
+      let entries = leb (length es + 3 * tally 2 es) 1024 in
+      let depths = fitsDepths (root .deep (orWeight nodeWeight) a) (root .deep (orWeight callWeight) a) in
       record {
         reading = e;
         encoded = whole;
         layout-is = refl;
         run = record {
           held = record {
-            entries-most = leb→le (length es) 1024 (and-left (leb (length es) 1024) _ fit);
+            entries-most = most;
             codes-held = omega (arith, h .sized);
             values-held = omega (arith, h .sized);
           };
@@ -188,14 +175,17 @@ module _ {A : Type 0} {root : Root A} {sort : ℕ} (r : RootOf root sort) (s : L
           small-values = values;
         };
         in-range = record { values = values; sizes = fit; texts = h .well };
-        short = rw (← (short-texts es), r .short es) (and-left (root .texts es) _ (h .keeping));
-        small = and-right (root .texts es) _ (h .keeping);
+        short = rw (← (short-texts es)) (and-left (shortIn temporalWords 64 es) _ (rw (← (r .short a most)) at texts));
+        entries-fit = leb→le (length es + 3 * tally 2 es) 1024 (and-right (shortIn temporalWords 64 es) entries (rw (← (r .short a most)) at texts));
+        depths = subst (λ (w : ℕ → ℕ). T (fitsDepths (root .deep (orWeight nodeWeight) a) (root .deep w a))) or-calls (and-left depths _ rest);
+        few = and-right depths _ rest;
       }
 
   pub accepted-root : (l : Layout) → acceptOf s sort ≡ Tape l → (a : A) × Accepted root s l a
+  unfolding weighted
   accepted-root l e = go (answers r s) e refl
     where
-      go : {x : Opened} {y : Reading A} → Answers root s x y → x ≡ Tape l → read root s ≡ y → (a : A) × Accepted root s l a
+      go : {x : Opened} {y : Reading A} → Answers (weighted root) s x y → x ≡ Tape l → accept (weighted root) s ≡ y → (a : A) × Accepted root s l a
       go answers-2 e q = let z : _≡_ {A = ℕ} 0 1 = cc in absurd (omega arith)
       go answers-3 e q = let z : _≡_ {A = ℕ} 0 1 = cc in absurd (omega arith)
       go (answers-tape {a = a} {l = k} h p) e q =
@@ -217,12 +207,12 @@ pub nesting-64 : (nodes calls : ℕ) → T (fitsDepths nodes calls) → nodes �
 unfolding fitsDepths
 nesting-64 nodes calls t = leb→le nodes 64 (and-left (leb nodes 64) _ t)
 
--- the parameters that a definition's limits leave
-pub few-params : (def : MacroDef) → T (smallBody def) → length (def .params) ≤ 16
-unfolding smallBody
-few-params def t = leb→le (length (def .params)) 16 (and-left (leb (length (def .params)) 16) _ t)
+-- so is an accepted tree as it was given, in which an Or is one node and not three
+pub given-64 : {A : Type 0} {root : Root A} {s : List ℕ} {l : Layout} {a : A} → Rewrites root → Accepted root s l a → root .deep nodeWeight a ≤ 64
+given-64 {root = root} {a = a} r h =
+    omega (arith, nesting-64 (root .deep (orWeight nodeWeight) a) (root .deep callWeight a) (h .depths), r .heavier nodeWeight (orWeight nodeWeight) or-nodes a)
 
--- the nesting that they leave
-pub small-nesting : (def : MacroDef) → T (smallBody def) → deepBody isNode (def .body) ≤ 64
-unfolding smallBody
-small-nesting def t = nesting-64 (deepBody isNode (def .body)) (deepBody isCall (def .body)) (and-right (leb (length (def .params)) 16) _ t)
+-- the parameters that a definition's limits leave
+pub few-params : (def : MacroDef) → T (fewParams def) → length (def .params) ≤ 16
+unfolding fewParams
+few-params def t = leb→le (length (def .params)) 16 t

@@ -80,7 +80,7 @@ module _ {s : List ℕ} {l : Layout} {p : Place} where
 
 -- ------------------------------------------------------------------ the scan of a run
 
-module _ {t : Table} {s : List ℕ} {l : Layout} {p : Place} {es : List Entry} {sort : ℕ} {d : (ℕ → Bool) → ℕ} {x : Bool} where
+module _ {t : Table} {s : List ℕ} {l : Layout} {p : Place} {es : List Entry} {sort : ℕ} {d : (ℕ → ℕ) → ℕ} {x : Bool} where
   scan-run : (b : PassesBy t (sort ∷ []) es d x) → sort < 32 → Run s l p es
       → scanAt (t .words) s l p sort 0 ≡ Ends (place (p .at + length es) (p .text + length (textOf es))) (b .over 0 0 0)
   scan-run b h r =
@@ -107,11 +107,11 @@ module _ {t : Table} {s : List ℕ} {l : Layout} {p : Place} {es : List Entry} {
   skip-run b h r = ap behind (scan-run b h r)
 
 -- a tree at the start of a layout is too deep if it passes the limits on depths
-pub deep-run : {t : Table} {s : List ℕ} {l : Layout} {es : List Entry} {sort : ℕ} {d : (ℕ → Bool) → ℕ} → PassesBy t (sort ∷ []) es d true
-    → sort < 32 → Run s l (place 0 0) es → tooDeepIn (t .words) s l sort ≡ not (fitsDepths (d (t .nodes)) (d (t .calls)))
+pub deep-run : {t : Table} {s : List ℕ} {l : Layout} {es : List Entry} {sort : ℕ} {d : (ℕ → ℕ) → ℕ} → PassesBy t (sort ∷ []) es d true
+    → sort < 32 → Run s l (place 0 0) es → tooDeepIn (t .words) s l sort ≡ not (fitsDepths (d (t .nodes false)) (d (t .calls)))
 unfolding fitsDepths
 deep-run {t} {d = d} b h r =
-    let nodes = d (t .nodes) in
+    let nodes = d (t .nodes false) in
     let calls = d (t .calls) in
     ap overOf (scan-run b h r)
     ∙ reported (leb nodes 64 && leb calls 4) (b .says 0 0 0 (omega arith) (omega arith))

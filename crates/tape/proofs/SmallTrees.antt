@@ -88,12 +88,12 @@ module _ (w : Wait) (code value : ℕ) where
   -- what an entry at such a place does
   record Stays (nodes calls : ℕ) : Type 0 where
     passes : exceeds 0 w head ≡ false
-    lower : All (Low nodes calls) (below w head)
+    lower : All (Low nodes calls) (below 0 w head)
 
   module _ (nodes calls : ℕ) (i : inSort (head .sort) code ≡ true) (p : Low (innerOf (head .row) + nodes) (callsOf (head .row) + calls) w) where
-    fits : w .nesting + nestingOf (head .row) ≤ 64 → exceeds 0 w head ≡ false
+    fits : w .nesting + nestingOf false (head .row) ≤ 64 → exceeds 0 w head ≡ false
     fits h =
-        rw (le-ltb 64 (w .nesting + nestingOf (head .row)) h, le-ltb 4 (w .calls + callsOf (head .row)) (omega (arith, p .calls-low)))
+        rw (le-ltb 64 (w .nesting + nestingOf false (head .row)) h, le-ltb 4 (w .calls + callsOf (head .row)) (omega (arith, p .calls-low)))
 
     called : enclosed (w .calls) head + calls ≤ 4
     called = omega (arith, p .calls-low)
@@ -104,14 +104,14 @@ module _ (w : Wait) (code value : ℕ) where
         ordinary : w .nesting + (innerOf (head .row) + nodes) ≤ 63 → Stays nodes calls
         ordinary h =
             ⊎-elim
-            (λ (inner : nestingOf (head .row) ≤ innerOf (head .row)). record {
+            (λ (inner : nestingOf false (head .row) ≤ innerOf (head .row)). record {
               passes = fits (omega arith);
-              lower = all-low (deeper (w .nesting) head) (enclosed (w .calls) head) nodes calls called (omega arith)
+              lower = all-low (deeper 0 (w .nesting) head) (enclosed (w .calls) head) nodes calls called (omega arith)
                   (sortsOf (followsOf (head .follows)) value);
             })
             (λ one. record {
               passes = fits (omega (arith, one .0));
-              lower = all-texts (deeper (w .nesting) head) (enclosed (w .calls) head) nodes calls called (omega (arith, one .0)) (one .1 value);
+              lower = all-texts (deeper 0 (w .nesting) head) (enclosed (w .calls) head) nodes calls called (omega (arith, one .0)) (one .1 value);
             })
             (leaf (w .sort) code i)
 
@@ -121,7 +121,7 @@ module _ (w : Wait) (code value : ℕ) where
             let none : head .follows ≡ 0 = ap (λ (s : ℕ). followsIn (sortAt temporalWords s) (head .row)) e ∙ bare .1 in
             record {
               passes = fits (omega (arith, bare .0, p .nesting-low));
-              lower = subst (All (Low nodes calls)) (follow-none (head .follows) value (deeper (w .nesting) head) (enclosed (w .calls) head) none)
+              lower = subst (All (Low nodes calls)) (follow-none (head .follows) value (deeper 0 (w .nesting) head) (enclosed (w .calls) head) none)
                   all-nil;
             }
 
@@ -138,7 +138,7 @@ flat-scan size [] (w ∷ st) at text h = refl
 flat-scan size (e ∷ es) [] at text h = refl
 flat-scan size (e ∷ es) (w ∷ st) at text (all-cons p h) =
     go lets-in refl
-    (λ lower. flat-scan size es (below w first ++ st) (at + 1) (text + first .text) (all-append lower (all-map (low-less _ _) h)))
+    (λ lower. flat-scan size es (below 0 w first ++ st) (at + 1) (text + first .text) (all-append lower (all-map (low-less _ _) h)))
   where
     first : Head
     first = head w (e .code) (e .value)
@@ -147,9 +147,9 @@ flat-scan size (e ∷ es) (w ∷ st) at text (all-cons p h) =
     lets-in = accepts (length es) (size - text) first && textPasses 0 (e .text)
 
     go : (b : Bool) → lets-in ≡ b
-        → (All (Low (nodesIn es) (callsAmong es)) (below w first)
-        → overOf (scanOf temporalWords 0 size es (below w first ++ st) (at + 1) (text + first .text) false) ≡ false)
-        → overOf (pick b (scanOf temporalWords 0 size es (below w first ++ st) (at + 1) (text + first .text) (exceeds 0 w first)) Malformed)
+        → (All (Low (nodesIn es) (callsAmong es)) (below 0 w first)
+        → overOf (scanOf temporalWords 0 size es (below 0 w first ++ st) (at + 1) (text + first .text) false) ≡ false)
+        → overOf (pick b (scanOf temporalWords 0 size es (below 0 w first ++ st) (at + 1) (text + first .text) (exceeds 0 w first)) Malformed)
         ≡ false
     go false a next = refl
     go true a next =

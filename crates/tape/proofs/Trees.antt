@@ -30,9 +30,10 @@ use Rattle.format.specs.Ast.{
   MacroDef,
 }
 use Rattle.format.specs.Flat.{flatTexts, flatUnit, flatInterval, flatWithin, flatSlot, flatType, flatBinder, flatBinders, flatSigil, flatCmp, flatArith, flatBool, lengthTerms, lengthFields, lengthArgs, flatCondition, flatTerm, flatAgg, flatCall, flatArg, flatArgs, flatFields, flatTerms, flatParams, flatBody, flatDef, flatDefs, flatRegistry}
-use Rattle.format.specs.Limits.{isNode, isCall, weigh, deepCondition, deepTerm, deepAgg, deepCall, deepArg, deepArgs, deepFields, deepTerms, deepBody}
+use Rattle.format.specs.DeMorgan.{orWeight}
+use Rattle.format.specs.Limits.{isNode, isCall, weigh, deepCondition, deepTerm, deepAgg, deepCall, deepArg, deepArgs, deepFields, deepTerms, deepBody, deepBodies}
 use Rattle.format.specs.Macro.{isCode}
-use Rattle.format.specs.Tape.{isText, textWidth}
+use Rattle.format.specs.Tape.{isText, textWidth, fewParams, fewParamsEach}
 use Rattle.grammar.specs.Grammar as sort
 use Rattle.grammar.specs.Waits.{valued}
 use Rattle.grammar.specs.Words.{temporalWords, followsOf}
@@ -40,13 +41,13 @@ use Rattle.tape.proofs.Passing.{not-ltb, Passes, none, _then_, _before_
 
 -- to unfold this is to unfold what decides an entry of a known code
 decides : Unit {0}
-unfolding isNode isCall weigh isText isCode textWidth temporalWords followsOf
+unfolding isNode isCall weigh orWeight isText isCode textWidth temporalWords followsOf
 decides = tt
 
 -- ------------------------------------------------------------------ parts in which nothing is deep
 
 abbrev pub Shallow : List ℕ → List Entry → Type 0
-Shallow ss es = Passes ss es (λ p. 0) true
+Shallow ss es = Passes ss es (λ w. 0) true
 
 pub passes-text : (t : Text) → Shallow (sort.text ∷ []) (textEntry 40 t ∷ [])
 unfolding decides
@@ -147,12 +148,12 @@ passes-binders bs = plain sort.bindings (entry 41 (length bs)) refl refl refl re
 -- ------------------------------------------------------------------ the trees
 
 -- lists with their 41
-list-args : (args : CallArgs) {d : (ℕ → Bool) → ℕ} → Passes (replicate (lengthArgs args) sort.argument) (flatArgs args) d true
+list-args : (args : CallArgs) {d : (ℕ → ℕ) → ℕ} → Passes (replicate (lengthArgs args) sort.argument) (flatArgs args) d true
     → Passes (sort.arguments ∷ []) (entry 41 (lengthArgs args) ∷ flatArgs args) d true
 unfolding decides
 list-args args b = plain sort.arguments (entry 41 (lengthArgs args)) refl refl refl refl b
 
-list-fields : (fs : NamedArgs) {d : (ℕ → Bool) → ℕ} → Passes (replicate (lengthFields fs) sort.field) (flatFields fs) d true
+list-fields : (fs : NamedArgs) {d : (ℕ → ℕ) → ℕ} → Passes (replicate (lengthFields fs) sort.field) (flatFields fs) d true
     → Passes (sort.fields ∷ []) (entry 41 (lengthFields fs) ∷ flatFields fs) d true
 unfolding decides
 list-fields fs b = plain sort.fields (entry 41 (lengthFields fs)) refl refl refl refl b
@@ -160,7 +161,7 @@ list-fields fs b = plain sort.fields (entry 41 (lengthFields fs)) refl refl refl
 mutual
   unfolding decides flatBinder flatCondition lengthTerms lengthFields lengthArgs deepCondition
 
-  pub passes-condition : (c : Condition) → Passes (sort.condition ∷ []) (flatCondition c) (λ p. deepCondition p c) true
+  pub passes-condition : (c : Condition) → Passes (sort.condition ∷ []) (flatCondition c) (λ w. deepCondition w c) true
   passes-condition (Condition.And s l r) = node sort.condition (entry 1 s) refl refl (passes-condition l then passes-condition r)
   passes-condition (Condition.Or s l r) = node sort.condition (entry 2 s) refl refl (passes-condition l then passes-condition r)
   passes-condition (Condition.Not s c) = node sort.condition (entry 3 s) refl refl (passes-condition c)
@@ -181,7 +182,7 @@ mutual
   passes-condition (Condition.Refine s o c fs) =
       node sort.condition (entry 13 s) refl refl (passes-span o before passes-condition c then list-fields fs (each-field fs))
 
-  pub passes-term : (t : Term) → Passes (sort.term ∷ []) (flatTerm t) (λ p. deepTerm p t) true
+  pub passes-term : (t : Term) → Passes (sort.term ∷ []) (flatTerm t) (λ w. deepTerm w t) true
   passes-term (Term.Entity ty id) = tip sort.term (entry 20 0) refl refl (passes-text ty before passes-text id)
   passes-term (Term.Integer n) = tip sort.term (entry 21 n) refl refl none
   passes-term (Term.Decimal t) = tip sort.term (textEntry 22 t) refl refl none
@@ -197,33 +198,33 @@ mutual
   passes-term (Term.ParamRef n) = tip sort.term (textEntry 32 n) refl refl none
   passes-term (Term.BinderRef n) = tip sort.term (textEntry 33 n) refl refl none
 
-  pub passes-agg : (a : AggExpr) → Passes (sort.aggregate ∷ []) (flatAgg a) (λ p. deepAgg p a) true
+  pub passes-agg : (a : AggExpr) → Passes (sort.aggregate ∷ []) (flatAgg a) (λ w. deepAgg w a) true
   passes-agg (AggExpr.Sum s v bs c) =
       node sort.aggregate (entry 34 s) refl refl (passes-slot v before passes-binders bs before passes-condition c)
   passes-agg (AggExpr.Count s bs c) = node sort.aggregate (entry 35 s) refl refl (passes-binders bs before passes-condition c)
   passes-agg (AggExpr.AggCall s c) = node sort.aggregate (entry 36 s) refl refl (passes-call c)
 
-  pub passes-call : (c : Call) → Passes (sort.call ∷ []) (flatCall c) (λ p. deepCall p c) true
+  pub passes-call : (c : Call) → Passes (sort.call ∷ []) (flatCall c) (λ w. deepCall w c) true
   passes-call (Call.MacroCall s n args) = node sort.call (entry 54 s) refl refl (passes-text n before list-args args (each-arg args))
 
-  pub passes-arg : (a : CallArg) → Passes (sort.argument ∷ []) (flatArg a) (λ p. deepArg p a) true
+  pub passes-arg : (a : CallArg) → Passes (sort.argument ∷ []) (flatArg a) (λ w. deepArg w a) true
   passes-arg (CallArg.ConditionArg c) = plain sort.argument (entry 55 0) refl refl refl refl (passes-condition c)
   passes-arg (CallArg.TermArg t) = plain sort.argument (entry 56 0) refl refl refl refl (passes-term t)
   passes-arg (CallArg.WithinArg i) = plain sort.argument (entry 57 0) refl refl refl refl (passes-interval i)
 
-  each-arg : (args : CallArgs) → Passes (replicate (lengthArgs args) sort.argument) (flatArgs args) (λ p. deepArgs p args) true
+  each-arg : (args : CallArgs) → Passes (replicate (lengthArgs args) sort.argument) (flatArgs args) (λ w. deepArgs w args) true
   each-arg CallArgs.noArgs = none
   each-arg (CallArgs.consArg a rest) = passes-arg a then each-arg rest
 
-  each-field : (fs : NamedArgs) → Passes (replicate (lengthFields fs) sort.field) (flatFields fs) (λ p. deepFields p fs) true
+  each-field : (fs : NamedArgs) → Passes (replicate (lengthFields fs) sort.field) (flatFields fs) (λ w. deepFields w fs) true
   each-field NamedArgs.noFields = none
   each-field (NamedArgs.consField n t fs) = plain sort.field (textEntry 40 n) refl refl refl refl (passes-term t) then each-field fs
 
-  each-term : (ts : Terms) → Passes (replicate (lengthTerms ts) sort.term) (flatTerms ts) (λ p. deepTerms p ts) true
+  each-term : (ts : Terms) → Passes (replicate (lengthTerms ts) sort.term) (flatTerms ts) (λ w. deepTerms w ts) true
   each-term Terms.noTerms = none
   each-term (Terms.consTerm t ts) = passes-term t then each-term ts
 
-pub passes-fields : (fs : NamedArgs) → Passes (sort.fields ∷ []) (entry 41 (lengthFields fs) ∷ flatFields fs) (λ p. deepFields p fs) true
+pub passes-fields : (fs : NamedArgs) → Passes (sort.fields ∷ []) (entry 41 (lengthFields fs) ∷ flatFields fs) (λ w. deepFields w fs) true
 passes-fields fs = list-fields fs (each-field fs)
 
 -- ------------------------------------------------------------------ definitions
@@ -234,42 +235,33 @@ each-param [] = none
 each-param (p ∷ ps) = plain sort.parameter (entry 42 (p .span)) refl refl refl refl (passes-text (p .name)) before each-param ps
 
 -- no more than 16
-passes-params : (ps : List MacroParam) → Passes (sort.parameters ∷ []) (entry 41 (length ps) ∷ flatParams ps) (λ p. 0) (leb (length ps) 16)
+passes-params : (ps : List MacroParam) → Passes (sort.parameters ∷ []) (entry 41 (length ps) ∷ flatParams ps) (λ w. 0) (leb (length ps) 16)
 unfolding decides
 passes-params ps =
-    subst (Passes (sort.parameters ∷ []) (entry 41 (length ps) ∷ flatParams ps) (λ p. 0))
+    subst (Passes (sort.parameters ∷ []) (entry 41 (length ps) ∷ flatParams ps) (λ w. 0))
     (and-true (not (ltb 16 (length ps))) ∙ not-ltb 16 (length ps))
     (plain sort.parameters (entry 41 (length ps)) refl refl refl refl (each-param ps))
 
-pub passes-body : (b : MacroBody) → Passes (sort.body ∷ []) (flatBody b) (λ p. deepBody p b) true
+pub passes-body : (b : MacroBody) → Passes (sort.body ∷ []) (flatBody b) (λ w. deepBody w b) true
 unfolding decides flatBody deepBody
 passes-body MacroBody.Cedar = plain sort.body (entry 61 0) refl refl refl refl none
 passes-body (MacroBody.TemporalCondition c) = plain sort.body (entry 62 0) refl refl refl refl (passes-condition c)
 passes-body (MacroBody.TemporalValue t) = plain sort.body (entry 63 0) refl refl refl refl (passes-term t)
 
-pub passes-definition : (d : MacroDef) → Passes (sort.definition ∷ []) (flatDef d) (λ p. deepBody p (d .body)) (leb (length (d .params)) 16)
+pub passes-definition : (d : MacroDef) → Passes (sort.definition ∷ []) (flatDef d) (λ w. deepBody w (d .body)) (leb (length (d .params)) 16)
 unfolding decides flatDef
 passes-definition d =
-    subst (Passes (sort.definition ∷ []) (flatDef d) (λ p. deepBody p (d .body))) (and-true (leb (length (d .params)) 16))
+    subst (Passes (sort.definition ∷ []) (flatDef d) (λ w. deepBody w (d .body))) (and-true (leb (length (d .params)) 16))
     (plain sort.definition (entry 60 (d .span)) refl refl refl refl
     (passes-text (d .name) before passes-params (d .params) before passes-body (d .body)))
 
 -- ------------------------------------------------------------------ registries
 
--- of all bodies
-unfoldable pub deepBodies : (ℕ → Bool) → List MacroDef → ℕ
-deepBodies p [] = 0
-deepBodies p (d ∷ ds) = max (deepBody p (d .body)) (deepBodies p ds)
-
-unfoldable pub fewParams : List MacroDef → Bool
-fewParams [] = true
-fewParams (d ∷ ds) = leb (length (d .params)) 16 && fewParams ds
-
-each-definition : (ds : List MacroDef) → Passes (replicate (length ds) sort.definition) (flatDefs ds) (λ p. deepBodies p ds) (fewParams ds)
-unfolding flatDefs deepBodies fewParams
+each-definition : (ds : List MacroDef) → Passes (replicate (length ds) sort.definition) (flatDefs ds) (λ w. deepBodies w ds) (fewParamsEach ds)
+unfolding flatDefs deepBodies fewParams fewParamsEach
 each-definition [] = none
 each-definition (d ∷ ds) = passes-definition d then each-definition ds
 
-pub passes-registry : (ds : List MacroDef) → Passes (sort.definitions ∷ []) (flatRegistry ds) (λ p. deepBodies p ds) (fewParams ds)
+pub passes-registry : (ds : List MacroDef) → Passes (sort.definitions ∷ []) (flatRegistry ds) (λ w. deepBodies w ds) (fewParamsEach ds)
 unfolding decides flatRegistry
 passes-registry ds = plain sort.definitions (entry 41 (length ds)) refl refl refl refl (each-definition ds)

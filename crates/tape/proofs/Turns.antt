@@ -75,7 +75,7 @@ module _ (g : List ℕ) (longest : ℕ) (s : List ℕ) (l : Layout) (stack : Lis
       abbrev onward : Scanned
       onward =
           scanOf g longest (l .size) (entriesAt g s l (at + 1) (text + e .text) (l .entries - (at + 1)))
-          (below (waitOf w) e ++ (drop 1 (waitsOf (cellOf w)) ++ stackOf stack (top + 1)))
+          (below longest (waitOf w) e ++ (drop 1 (waitsOf (cellOf w)) ++ stackOf stack (top + 1)))
           (at + 1) (text + e .text) (over || exceeds longest (waitOf w) e)
 
       turn : scanned ≡ pick (lets-in && its-text) onward Malformed

@@ -2,9 +2,11 @@
 -- Assumes nothing.
 use Prim.Native.Nat.{ℕ}
 use mathlib.Core.List.{List}
-use lib.Dec.{eqb}
+use mathlib.Core.Bool.{Bool}
+use lib.Dec.{leb, eqb}
 use Rattle.grammar.specs.Words.{temporalWords}
 use Rattle.tape.specs.Header.{openOf}
+use Rattle.tape.specs.Ors.{rewrittenCount}
 use Rattle.tape.specs.Pick.{pick}
 use Rattle.tape.specs.Scan.{scanAt}
 use Rattle.tape.specs.declared.header.Opened.{Opened}
@@ -13,14 +15,18 @@ use Rattle.tape.specs.declared.layout.Layout.{Layout}
 use Rattle.tape.specs.declared.scan.Scanned.{Scanned}
 use Rattle.tape.specs.declared.scan.Scanned.the-variants.{Ends, Malformed}
 
+-- a largest figure is passed, or that of entries once Ors are rewritten
+abbrev pub figured : List ℕ → Layout → Bool → Opened
+figured s l over = pick over (Refused 3) (pick (leb (rewrittenCount s l) 1024) (Tape l) (Refused 3))
+
 -- a scan that ends where entries and text are used up is a tape of the root wanted, and 3 where a largest figure is passed
-abbrev pub judged : Layout → Scanned → Opened
-judged l Malformed = Refused 2
-judged l (Ends p over) =
-    pick (eqb (p .at) (l .entries)) (pick (eqb (p .text) (l .size)) (pick over (Refused 3) (Tape l)) (Refused 2)) (Refused 2)
+abbrev pub judged : List ℕ → Layout → Scanned → Opened
+judged s l Malformed = Refused 2
+judged s l (Ends p over) =
+    pick (eqb (p .at) (l .entries)) (pick (eqb (p .text) (l .size)) (figured s l over) (Refused 2)) (Refused 2)
 
 abbrev pub acceptIn : List ℕ → ℕ → List ℕ → ℕ → Layout → Opened
-acceptIn g longest s sort l = judged l (scanAt g s l (record { at = 0; text = 0 }) sort longest)
+acceptIn g longest s sort l = judged s l (scanAt g s l (record { at = 0; text = 0 }) sort longest)
 
 abbrev pub afterOpen : List ℕ → ℕ → List ℕ → ℕ → Opened → Opened
 afterOpen g longest s sort (Tape l) = acceptIn g longest s sort l

@@ -1,6 +1,7 @@
 -- What the contracts of the crate cite.
 pub mod Pick
 pub mod Layouts
+pub mod Ors
 pub mod Header
 pub mod Scan
 pub mod Flat

@@ -31,7 +31,7 @@ scanOf g longest size (e ∷ es) [] at text over = Ends (record { at = at; text 
 scanOf g longest size (e ∷ es) (w ∷ st) at text over =
     let h = headOf g (w .sort) (e .code) (e .value) in
     pick (accepts (length es) (size - text) h && textPasses longest (e .text))
-    (scanOf g longest size es (below w h ++ st) (at + 1) (text + h .text) (over || exceeds longest w h))
+    (scanOf g longest size es (below longest w h ++ st) (at + 1) (text + h .text) (over || exceeds longest w h))
     Malformed
 
 -- the entries of a slice from a place on

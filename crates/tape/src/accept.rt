@@ -3,14 +3,15 @@ use crate::header::Opened;
 use crate::header::open;
 use crate::layout::Layout;
 use crate::layout::Place;
+use crate::ors::fits_rewritten;
 use crate::scan::Scanned;
 use crate::scan::scan;
 use grammar::codes::table;
 ghost use mathlib.Core.Path.{_≡_};
 ghost use Rattle.tape.specs.Accept.{acceptBy, acceptIn, acceptOf, judged};
 
-// The layout of a tape whose root is of a sort and which passes no largest figure of an input, or the refusal's number. The longest text
-// has 64 bytes, names too.
+// The layout of a tape whose root is of a sort and which passes no largest figure of an input, nor once its Ors are rewritten, or the
+// refusal's number. The longest text has 64 bytes, names too.
 pub fn accept(s: &[u8], sort: u64) -> Opened
     ensures { λ r. ⌜ r ≡ acceptOf (now (s .entry)) sort ⌝ }
 {
@@ -32,14 +33,15 @@ fn accept_in(grammar: &[u64], longest: u64, s: &[u8], l: Layout, sort: u64) -> O
     ensures { λ r. ⌜ r ≡ acceptIn (now (grammar .entry)) longest (now (s .entry)) sort l ⌝ }
 {
     judge(
+        s,
         l,
         scan(grammar, s, l, Place { at: 0, text: 0 }, sort, longest),
     )
 }
 
 // A scan that ends where entries and text are used up found the root wanted.
-fn judge(l: Layout, found: Scanned) -> Opened
-    ensures { λ r. ⌜ r ≡ judged l found ⌝ }
+fn judge(s: &[u8], l: Layout, found: Scanned) -> Opened
+    ensures { λ r. ⌜ r ≡ judged (now (s .entry)) l found ⌝ }
 {
     let Scanned::Ends(p, over) = found else {
         return Opened::Refused(2);
@@ -55,8 +57,11 @@ fn judge(l: Layout, found: Scanned) -> Opened
         return Opened::Refused(2);
     }
     if over {
-        Opened::Refused(3)
-    } else {
+        return Opened::Refused(3);
+    }
+    if fits_rewritten(s, l) {
         Opened::Tape(l)
+    } else {
+        Opened::Refused(3)
     }
 }

@@ -4,6 +4,7 @@ pub mod accept;
 pub mod flat;
 pub mod header;
 pub mod layout;
+pub mod ors;
 pub mod part;
 pub mod scan;
 pub mod text;

@@ -111,7 +111,7 @@ fn take_entry(
         return Turn::Refused;
     }
     let over = exceeds(longest, w, e);
-    let next = advance(stack, top, w, e);
+    let next = advance(stack, top, w, e, longest);
     Turn::Passed(next, text + e.text as usize, over)
 }
 

@@ -3,8 +3,10 @@
 use borrow.Author.Needs.{needs}
 use denote.Ref.{now}
 use mathlib.Core.Path.{sym, _∙_}
+use Rattle.format.specs.Tape.{definitionRoot}
 use Rattle.definition.specs.Answers.{checkAnswer}
 use Rattle.definition.specs.Check.{checkDef}
+use Rattle.definition.proofs.Withdrawn.{check-as-given}
 use Rattle.tape.proofs.Roots.{definition-root, bytes-all}
 use Rattle.answer.proofs.Operations.{message-short, message-refused}
 use Rattle.check_body.proofs.Operation.{checked-definition}
@@ -13,7 +15,7 @@ use Rattle.check_body.proofs.check.Tie as tie
 
 returns : tie.Need-returns
 unfolding checkAnswer
-returns c = message-short definition-root checkDef _ _ (c .before .before .before .before .if1 .taken) (c .before .before .refuse-number .ensures)
+returns c = message-short _ _ (c .before .before .before .before .if1 .taken) (c .before .before .refuse-number .ensures)
 
 returns-2 : tie.Need-returns-2
 returns-2 c =
@@ -23,11 +25,12 @@ returns-2 c =
     (c .before .before .before .before .before .check-def .ensures) (c .before .before .before .before .verdict-of .ensures) (c .before .before .answer-verdict .ensures)
 
 returns-3 : tie.Need-returns-3
-unfolding checkAnswer
 returns-3 c =
     let at = c .before .before .before .before .before .before .before in
     let refused = sym (at .accept .ensures) ∙ c .before .before .before .before .before .number .given .1 in
-    message-refused definition-root checkDef _ _ (at .before .if1 .left) refused (c .before .before .refuse-number2 .ensures)
+    let definition = now (at .before .before .before .before .args .definition) in
+    message-refused definitionRoot definition-root checkDef _ definition (at .before .if1 .left) refused (c .before .before .refuse-number2 .ensures)
+    ∙ sym (check-as-given _ definition (bytes-all definition (λ i. at .before .before .before .shared-slice-known .given i .fits)))
 
 pub check-spec : {M : Type 1} → statement M
 check-spec =

@@ -3,8 +3,10 @@
 use native.Mathlib.Omega.{arith}
 use mathlib.Core.Path.{sym, _∙_}
 use borrow.Author.Needs.{needs}
+use Rattle.format.specs.Tape.{registryRoot}
 use Rattle.definition.specs.Registry.{build}
 use Rattle.definition.specs.Answers.{registryAnswer}
+use Rattle.definition.proofs.Withdrawn.{registry-as-given}
 use Rattle.tape.proofs.Roots.{registry-root, bytes-all}
 use Rattle.answer.proofs.Operations.{message-short, message-refused}
 use Rattle.registry.proofs.Answers.{built}
@@ -13,13 +15,14 @@ use Rattle.registry.proofs.build.Tie as tie
 
 returns : tie.Need-returns
 unfolding registryAnswer
-returns c = message-short registry-root build _ _ (omega (arith, c .before .before .before .before .if1 .taken)) (c .before .before .refuse-number .ensures)
+returns c = message-short _ _ (omega (arith, c .before .before .before .before .if1 .taken)) (c .before .before .refuse-number .ensures)
 
 returns-2 : tie.Need-returns-2
-unfolding registryAnswer
 returns-2 c =
-    message-refused registry-root build _ _ (omega (arith, c .before .before .before .before .before .before .before .before .if1 .left)) (sym (c .before .before .before .before .before .before .before .accept .ensures) ∙ c .before .before .before .before .before .n .given .1)
+    let registry = c .before .before .before .before .before .before .before .before .before .before .before .args .registry .now in
+    message-refused registryRoot registry-root build _ registry (omega (arith, c .before .before .before .before .before .before .before .before .if1 .left)) (sym (c .before .before .before .before .before .before .before .accept .ensures) ∙ c .before .before .before .before .before .n .given .1)
     (c .before .before .refuse-number2 .ensures)
+    ∙ sym (registry-as-given _ registry (bytes-all registry (λ i. c .before .before .before .before .before .before .before .before .before .before .shared-slice-known .given i .fits)))
 
 returns-3 : tie.Need-returns-3
 returns-3 c =

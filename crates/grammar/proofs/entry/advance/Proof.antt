@@ -16,7 +16,7 @@ returns c =
     record {
       up = omega (arith, d .up);
       most = omega (arith, d .most);
-      stack-is = d .stack-is ∙ rw (← (follow-none (a .e .follows) (a .e .value) (deeper (a .w / 0x20000000000 % 128) (a .e))
+      stack-is = d .stack-is ∙ rw (← (follow-none (a .e .follows) (a .e .value) (deeper (a .longest) (a .w / 0x20000000000 % 128) (a .e))
           (enclosed (a .w / 0x1000000000000 % 8) (a .e)) (c .if1 .taken)));
     }
 

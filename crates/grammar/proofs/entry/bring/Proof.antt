@@ -11,11 +11,15 @@ returns c =
     record {
       up = g .up;
       most = g .most;
-      stack-is = g .stack-is ∙ simp (c .before .before .before .before .raised2 .ensures, c .before .before .before .before .before .raised .ensures);
+      stack-is = g .stack-is ∙ simp (
+        c .before .before .before .before .raised2 .ensures,
+        c .before .before .before .before .before .raised .ensures,
+        c .before .before .before .before .before .before .nesting-of .ensures .0,
+      );
     }
 
 pub bring-spec : {M : Type 1} → statement M
 bring-spec =
     tie.close
     (tie.spec
-    (λ c κs. search needs) (λ c κs. search needs) (λ c κs. search needs) (λ c. search needs) returns)
+    (λ c κs. search needs) (λ c κs. search needs) (λ c κs. search needs) (λ c κs. search needs) (λ c. search needs) returns)

@@ -6,15 +6,22 @@ use Rattle.grammar.proofs.entry.exceeds.Statement.{statement}
 use Rattle.grammar.proofs.entry.exceeds.Tie as tie
 
 returns : tie.Need-returns
-returns c = rw (← c .before .passes .ensures, c .if1 .taken)
+returns c = rw (← c .before .before .nesting-of .ensures .0, ← c .before .passes .ensures, c .if1 .taken)
 
 returns-2 : tie.Need-returns-2
 returns-2 c =
-    rw (← c .before .before .before .passes .ensures, c .before .before .if1 .left, ← c .before .passes2 .ensures, c .if2 .taken)
+    rw (
+      ← c .before .before .before .before .nesting-of .ensures .0,
+      ← c .before .before .before .passes .ensures,
+      c .before .before .if1 .left,
+      ← c .before .passes2 .ensures,
+      c .if2 .taken,
+    )
 
 returns-3 : tie.Need-returns-3
 returns-3 c =
     c .exceeds-input .ensures ∙ rw (
+      ← c .before .before .before .before .before .nesting-of .ensures .0,
       ← c .before .before .before .before .passes .ensures,
       c .before .before .before .if1 .left,
       ← c .before .before .passes2 .ensures,
@@ -22,4 +29,7 @@ returns-3 c =
     )
 
 pub exceeds-spec : {M : Type 1} → statement M
-exceeds-spec = tie.close (tie.spec (λ c κs. search needs) returns (λ c κs. search needs) returns-2 (λ c κs. search needs) returns-3)
+exceeds-spec =
+    tie.close
+    (tie.spec
+    (λ c κs. search needs) (λ c κs. search needs) returns (λ c κs. search needs) returns-2 (λ c κs. search needs) returns-3)
