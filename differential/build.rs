@@ -3,7 +3,7 @@
 
 use std::path::Path;
 
-const OPERATIONS: [&str; 4] = ["check", "registry", "substitute", "expand"];
+const OPERATIONS: [&str; 5] = ["check", "registry", "substitute", "expand", "older"];
 
 fn main() {
     println!("cargo::rerun-if-changed=build.rs");

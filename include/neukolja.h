@@ -75,7 +75,8 @@ enum {
     NEUKOLJA_NOT_A_TERM = 45,
     NEUKOLJA_NOT_AN_IDENTIFIER = 46,
     NEUKOLJA_NOT_A_PREDICATE = 47,      /* fields are given to what is no predicate */
-    NEUKOLJA_CALL_MET_IN_BODY = 48
+    NEUKOLJA_CALL_MET_IN_BODY = 48,
+    NEUKOLJA_OUT_OF_RANGE = 52          /* the older tape alone: seven times an amount of weeks has no 64 bits */
 };
 
 /* The body check of one definition, a tape whose root is 60. Nothing is charged.
@@ -113,6 +114,14 @@ void neukolja_expand(const uint8_t *registry, size_t registry_length,
                      uint8_t *work, size_t work_length,
                      uint8_t *message, size_t message_length,
                      uint64_t answer[5]);
+
+/* The older tape, for heads that know no weeks: a tape of a condition, a definition (60), a call (54), a list of 60 or a lone term
+ * (20 to 33; the first code tells which), each interval in weeks (64) turned into days (51) at seven times the amount. A tape
+ * that holds neither weeks nor an Or comes out as it is. No message; nothing is charged.
+ * result: the tape, then zeros to the end; all zeros on a refusal. */
+void neukolja_older(const uint8_t *tape, size_t tape_length,
+                    uint8_t *result, size_t result_length,
+                    uint64_t answer[5]);
 
 #ifdef __cplusplus
 }

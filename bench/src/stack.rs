@@ -25,6 +25,7 @@ fn deepest() -> Vec<(&'static str, Case)> {
         all.push((body, Case::new(Operation::Check, 0, vec![one.clone()])));
         all.push((body, Case::new(Operation::Registry, 0, vec![registry(left)])));
         all.push((body, Case::new(Operation::Substitute, u32::MAX, vec![one, called])));
+        all.push((body, Case::new(Operation::Older, 0, vec![registry(left)])));
         let deep = encode(&deep_rule(left));
         all.push((rule, Case::new(Operation::Expand, u32::MAX, vec![registry(left), deep])));
     }

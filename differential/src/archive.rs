@@ -40,6 +40,10 @@ mod functions {
             result: *mut u8, result_len: usize, work: *mut u8, work_len: usize, message: *mut u8, message_len: usize,
             answer: *mut [u64; 5],
         );
+        #[cfg(archive_has = "older")]
+        fn neukolja_older(
+            tape: *const u8, tape_len: usize, result: *mut u8, result_len: usize, answer: *mut [u64; 5],
+        );
     }
 
     pub struct Archive;
@@ -51,6 +55,7 @@ mod functions {
                 Operation::Registry => cfg!(archive_has = "registry"),
                 Operation::Substitute => cfg!(archive_has = "substitute"),
                 Operation::Expand => cfg!(archive_has = "expand"),
+                Operation::Older => cfg!(archive_has = "older"),
             }
         }
 
@@ -78,6 +83,8 @@ mod functions {
                         a.as_ptr(), a.len(), b.as_ptr(), b.len(), limit,
                         r.as_mut_ptr(), r.len(), w.as_mut_ptr(), w.len(), m.as_mut_ptr(), m.len(), answer,
                     ),
+                    #[cfg(archive_has = "older")]
+                    Operation::Older => neukolja_older(a.as_ptr(), a.len(), r.as_mut_ptr(), r.len(), answer),
                     #[allow(unreachable_patterns)]
                     _ => unreachable!("the archive has no {}", case.operation.name()),
                 }

@@ -8,10 +8,11 @@ pub enum Operation {
     Registry,
     Substitute,
     Expand,
+    Older,
 }
 
-pub const OPERATIONS: [Operation; 4] =
-    [Operation::Check, Operation::Registry, Operation::Substitute, Operation::Expand];
+pub const OPERATIONS: [Operation; 5] =
+    [Operation::Check, Operation::Registry, Operation::Substitute, Operation::Expand, Operation::Older];
 
 impl Operation {
     pub fn name(self) -> &'static str {
@@ -20,6 +21,7 @@ impl Operation {
             Operation::Registry => "registry",
             Operation::Substitute => "substitute",
             Operation::Expand => "expand",
+            Operation::Older => "older",
         }
     }
 
@@ -30,6 +32,7 @@ impl Operation {
             Operation::Registry => 2,
             Operation::Substitute => 3,
             Operation::Expand => 4,
+            Operation::Older => 10,
         }
     }
 
@@ -40,6 +43,7 @@ impl Operation {
             Operation::Registry => &[Sort::Definitions],
             Operation::Substitute => &[Sort::Definition, Sort::Call],
             Operation::Expand => &[Sort::Definitions, Sort::Condition],
+            Operation::Older => &[Sort::Any],
         }
     }
 
@@ -48,6 +52,7 @@ impl Operation {
         match self {
             Operation::Check | Operation::Registry => [0, 0, LEAST_MESSAGE],
             Operation::Substitute | Operation::Expand => [LEAST_RESULT, LEAST_WORK, LEAST_MESSAGE],
+            Operation::Older => [LEAST_RESULT, 0, 0],
         }
     }
 

@@ -2,7 +2,7 @@
 
 use crate::case::{Answer, Case, Operation};
 use crate::model::{self, Notes, TooLarge};
-use crate::tape::{self, LARGEST, Node};
+use crate::tape::{self, LARGEST, Node, Sort};
 use crate::upstream::{self, End, Reach, Run};
 
 /// Who stands behind an expected answer.
@@ -12,6 +12,8 @@ pub enum Witness {
     ModelAlone,
     /// Upstream gave the same number, span, message, charge and tree. (For 48 upstream has no span.)
     Upstream,
+    /// The same where the tapes hold weeks, which upstream was shown as days.
+    UpstreamWithDays,
     /// 3 for a whole result: upstream made the same tree with the same charge, and the tree is over a figure.
     UpstreamMadeIt,
     /// 3 for a 54 with its arguments: upstream, halted before the next charge, stood at the same call with the same
@@ -21,12 +23,13 @@ pub enum Witness {
     UpstreamSubstituted,
 }
 
-pub const WITNESSES: [(Witness, &str); 5] = [
+pub const WITNESSES: [(Witness, &str); 6] = [
     (Witness::Upstream, "upstream gave the same answer"),
+    (Witness::UpstreamWithDays, "upstream gave the same answer, with days for weeks"),
     (Witness::UpstreamMadeIt, "3 of a whole result, which upstream made"),
     (Witness::UpstreamHalted, "3 of a call, where upstream was halted"),
     (Witness::UpstreamSubstituted, "3 of a call's outcome, which upstream made"),
-    (Witness::ModelAlone, "1, 2 or 3 of a tape, decided by the model alone"),
+    (Witness::ModelAlone, "1, 2 or 3 of a tape, or the older tape: decided by the model alone"),
 ];
 
 /// The answer that a case must have: the model's, after upstream was heard.
@@ -46,18 +49,22 @@ fn hear_upstream(case: &Case, answer: &Answer, notes: &Notes) -> Result<Witness,
     if let Some(result) = &notes.result {
         same("a result without Or", &tape::withdrawn(result), result)?;
     }
+    if case.operation == Operation::Older {
+        return older_is_read(&notes.trees[0], notes.result.as_ref()).map(|()| Witness::ModelAlone);
+    }
+    let [given, trees] =
+        [&notes.given, &notes.trees].map(|trees| trees.iter().map(tape::weeks_as_days).collect::<Vec<_>>());
     // Check and registry answer the same of the trees as they were given.
     if !case.operation.charges() {
-        same(
-            "the trees with Or",
-            &run(case, &notes.given, Reach::limit(0)),
-            &run(case, &notes.trees, Reach::limit(0)),
-        )?;
+        same("the trees with Or", &run(case, &given, Reach::limit(0)), &run(case, &trees, Reach::limit(0)))?;
     }
-    let run = |reach: Reach| run(case, &notes.trees, reach);
+    let run = |reach: Reach| run(case, &trees, reach);
     let whole = Reach::limit(case.limit as usize);
     match &notes.too_large {
-        None => agrees(&run(whole), answer, notes).map(|()| Witness::Upstream),
+        None => {
+            agrees(&run(whole), answer, notes)?;
+            Ok(if trees == notes.trees { Witness::Upstream } else { Witness::UpstreamWithDays })
+        }
         Some(TooLarge::Whole { result }) => made(&run(whole), answer, result).map(|()| Witness::UpstreamMadeIt),
         Some(TooLarge::Call { body }) => {
             let halted = run(Reach { charges: notes.charges, ..whole });
@@ -65,7 +72,8 @@ fn hear_upstream(case: &Case, answer: &Answer, notes: &Notes) -> Result<Witness,
         }
         Some(TooLarge::Outcome { definition, call, outcome, charged_before }) => {
             let left = u64::from(case.limit) - charged_before;
-            let mut substituted = upstream::substitute(definition, call, Reach::limit(left as usize));
+            let [definition, call] = [definition, call].map(tape::weeks_as_days);
+            let mut substituted = upstream::substitute(&definition, &call, Reach::limit(left as usize));
             substituted.charged += charged_before;
             made(&substituted, answer, outcome)?;
             let halted = run(Reach { charges: notes.charges, ..whole });
@@ -84,9 +92,21 @@ fn run(case: &Case, trees: &[Node], reach: Reach) -> Run {
     }
 }
 
+/// A head without weeks reads the older tape, with intervals of equal length and nothing else changed.
+fn older_is_read(tree: &Node, older: Option<&Node>) -> Result<(), String> {
+    let Some(older) = older else { return Ok(()) };
+    let read = tape::accept(&tape::encode(older), Sort::Any);
+    same("the older tape read again", &read, &Ok(older.clone()))?;
+    same("the older tape without weeks", &tape::weeks_as_days(older), older)?;
+    let [mut before, mut after] = [Vec::new(), Vec::new()];
+    tree.visit(&mut |entry| before.push((tape::seconds(entry), entry.text.clone())));
+    older.visit(&mut |entry| after.push((tape::seconds(entry), entry.text.clone())));
+    same("the length of the intervals", &after, &before)
+}
+
 /// Upstream made the tree that is too large, with the same charge.
 fn made(run: &Run, answer: &Answer, tree: &Node) -> Result<(), String> {
-    same("the tree that is too large", &run.end, &End::Tree(tree.clone()))?;
+    same("the tree that is too large", &run.end, &End::Tree(tape::weeks_as_days(tree)))?;
     same("what upstream charged", &run.charged, &answer.charged)?;
     same("that it is too large", &tape::measure(tree).over(&LARGEST).is_some(), &true)
 }
@@ -112,7 +132,7 @@ fn agrees(run: &Run, answer: &Answer, notes: &Notes) -> Result<(), String> {
         End::Passed => same("the number", &0, &answer.number),
         End::Tree(tree) => {
             same("the number", &0, &answer.number)?;
-            same("the tree", &Some(tree), &notes.result.as_ref())
+            same("the tree", &Some(tree), &notes.result.as_ref().map(tape::weeks_as_days).as_ref())
         }
         End::Refused { number, span, message } => {
             same("the number", number, &answer.number)?;

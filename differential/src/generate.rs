@@ -11,7 +11,7 @@ use crate::trees::{DEPTH, Ground, MOST_DEFINITIONS, Macro, Style, Trees};
 
 /// The operation of a case is drawn first.
 fn draw(random: &mut Random) -> Operation {
-    OPERATIONS[random.weighted(&[16, 9, 35, 40])]
+    OPERATIONS[random.weighted(&[15, 8, 32, 38, 7])]
 }
 
 pub fn operation(seed: u64, index: u64) -> Operation {
@@ -49,6 +49,8 @@ fn style(random: &mut Random) -> Style {
         plain: *random.pick(&[0, 0, 10, 50]),
         wrong: *random.pick(&[0, 0, 2, 6, 20]),
         calls: random.weighted(&[0, 20, 40, 30, 8, 2]),
+        weeks: *random.pick(&[0, 0, 0, 20, 80]),
+        wild: *random.pick(&[0, 0, 0, 10]),
     }
 }
 
@@ -84,6 +86,25 @@ fn input(random: &mut Random, operation: Operation) -> Input {
             g.fuel = fuel(g.random);
             Input { first, second: Some(g.condition(Ground::Entered, DEPTH)) }
         }
+        Operation::Older => {
+            g.style.weeks = *g.random.pick(&[0, 20, 60, 60]);
+            g.style.wild = *g.random.pick(&[0, 0, 10, 50]);
+            Input { first: any_root(g), second: None }
+        }
+    }
+}
+
+/// A tree that has one of the roots of the older tape, a lone term often.
+fn any_root(g: &mut Trees) -> Node {
+    match g.random.weighted(&[25, 15, 15, 15, 30]) {
+        0 => g.condition(Ground::Hidden, DEPTH),
+        1 => a_definition(g).0,
+        2 => {
+            let known = a_definition(g).1;
+            g.call_of(&known, Ground::Hidden, DEPTH)
+        }
+        3 => a_registry(g),
+        _ => g.term(Ground::Hidden, DEPTH),
     }
 }
 
@@ -156,6 +177,14 @@ fn grow_a_tape(random: &mut Random, tree: &mut Node) {
         }
         return;
     }
+    if let 20..=33 = tree.code {
+        if let Some(more) = brim::missing(random, figure, &whole)
+            && let Some(grown) = brim::grow_term(tree.clone(), figure, more)
+        {
+            *tree = grown;
+        }
+        return;
+    }
     let parts = match tree.code {
         60 => std::slice::from_mut(tree),
         54 => &mut tree.children[1].children[..],
@@ -176,11 +205,11 @@ fn grow_a_tape(random: &mut Random, tree: &mut Node) {
 fn many_parameters(random: &mut Random, input: &mut Input) {
     let definition = match input.first.code {
         60 => &mut input.first,
-        _ if input.first.children.is_empty() => return,
-        _ => {
+        41 if !input.first.children.is_empty() => {
             let i = random.below(input.first.children.len());
             &mut input.first.children[i]
         }
+        _ => return,
     };
     let count = LARGEST_PARAMETERS + random.below(3) - 1;
     let list = &mut definition.children[1];
@@ -220,6 +249,7 @@ fn many_calls(random: &mut Random, input: &mut Input, operation: Operation) {
     match operation {
         Operation::Substitute => input.second = Some(calls),
         Operation::Expand => input.second = Some(condition),
+        Operation::Older => input.first = if random.chance(50) { calls } else { condition },
         // A body with calls is accepted, and refused by its check.
         Operation::Check => input.first.children[2] = Node::new(62, 0, vec![condition]),
         Operation::Registry => {
@@ -236,7 +266,7 @@ fn many_calls(random: &mut Random, input: &mut Input, operation: Operation) {
 fn result_at_a_limit(random: &mut Random, operation: Operation) -> Input {
     let figure = *random.pick(&FIGURES);
     match operation {
-        Operation::Check | Operation::Registry => at_a_limit(random, operation),
+        Operation::Check | Operation::Registry | Operation::Older => at_a_limit(random, operation),
         Operation::Substitute => {
             let mut input = multiplying(random, figure);
             let call = input.second.clone().expect("a call");
@@ -258,7 +288,7 @@ fn result_at_a_limit(random: &mut Random, operation: Operation) -> Input {
 /// A definition that pastes its argument several times, and a call with a large argument.
 fn multiplying(random: &mut Random, figure: Figure) -> Input {
     let g = &mut Trees {
-        style: Style { stray: 0, plain: 20, wrong: 0, calls: 3 },
+        style: Style { stray: 0, plain: 20, wrong: 0, calls: 3, weeks: 10, wild: 10 },
         parameters: vec![],
         macros: vec![],
         fuel: 10,

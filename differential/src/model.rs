@@ -1,4 +1,4 @@
-//! Document 01's answer to a case, decided on the trees of `tape` and not by upstream.
+//! The documents' answer to a case, decided on the trees of `tape` and not by upstream.
 //!
 //! It is there for what upstream does not have: acceptance, the limits, and the order among the refusals. Since a
 //! limit can end a walk anywhere, the walks are here too; wherever no limit comes, upstream has to agree with them.
@@ -125,6 +125,10 @@ fn operate(case: &Case, walk: &mut Walk, notes: &mut Notes) -> Result<Option<Nod
             registry(definitions)?;
             walk.expand_whole(definitions, condition).map(Some)
         }
+        (Operation::Older, [tree]) => match tape::older(tree) {
+            Some(older) => Ok(Some(older)),
+            None => refuse(52, 0, String::new()),
+        },
         _ => unreachable!("a case has as many tapes as its operation has roots"),
     }
 }

@@ -65,10 +65,28 @@ enum Shows {
     Declared(usize, usize),
     /// A character of so many bytes on an accepted tape, in a result or in a message.
     Character(&'static str, usize),
+    /// A root of the older tape, of a success or of a refusal.
+    Root(u8, bool),
+    /// An interval in weeks, behind a 57 or in a within, by what its days are.
+    Weeks(bool, &'static str),
     /// Exactly the limit was charged.
     WholeBudget,
     /// Buffers longer than the least, by whether there was a message.
     LongBuffers(bool),
+}
+
+impl Shows {
+    /// Whether it is about the acceptance of a tape, whichever operation the tape is for.
+    fn is_acceptance(&self) -> bool {
+        match self {
+            Shows::Reason(2 | 3, reason) | Shows::OneTooMany(reason) => {
+                !reason.contains("of a call") && !reason.contains("whole")
+            }
+            Shows::AtALimit(what, _) | Shows::Character(what, _) => what.contains("tape"),
+            Shows::Code { .. } | Shows::DeepBody(..) | Shows::ManyArguments | Shows::ResultCode(_) => true,
+            _ => false,
+        }
+    }
 }
 
 /// The cases that are looked through. More of them give a smaller list, slowly.
@@ -86,8 +104,9 @@ impl Candidate {
     fn new(case: Case) -> Result<Candidate, String> {
         let (answer, notes, _) = compare::expected(&case)?;
         let operation = |s: &Shows| match s {
-            // The format is one for all operations.
+            // The format is one for all operations, and so is acceptance: the later operations show it together.
             Shows::Place(_) => 0,
+            _ if case.operation.number() > 4 && s.is_acceptance() => 0,
             _ => case.operation.number(),
         };
         let shows = shows(&case, &answer, &notes).into_iter().map(|s| (operation(&s), s)).collect();
@@ -179,6 +198,12 @@ fn shows(case: &Case, answer: &Answer, notes: &Notes) -> Vec<Shows> {
             all.push(Shows::WholeBudget);
         }
     }
+    if case.operation == Operation::Older
+        && let [tree] = &notes.given[..]
+    {
+        all.push(Shows::Root(tree.code, success));
+        tree.visit(&mut |node| all.extend(weeks_below(node)));
+    }
     if answer.number == 10 {
         all.push(Shows::Reserved(answer.message.clone()));
     }
@@ -250,6 +275,19 @@ fn at_limits(tree: &Node) -> Vec<&'static str> {
         _ => {}
     });
     all
+}
+
+fn weeks_below(node: &Node) -> impl Iterator<Item = Shows> {
+    let kind = |weeks: i64| match weeks.checked_mul(7) {
+        None if weeks < 0 => "below the least",
+        None => "above the largest",
+        Some(days) if days > i64::MAX - 7 => "the largest",
+        Some(days) if days < i64::MIN + 7 => "the least",
+        Some(days) if days < 0 => "negative",
+        Some(_) => "none or more",
+    };
+    let weeks = node.children.iter().filter(|child| child.code == 64);
+    weeks.map(move |child| Shows::Weeks(node.code == 57, kind(child.value as i64)))
 }
 
 /// The names that a definition declares, each once.

@@ -14,6 +14,7 @@ pub fn possible(operation: Operation) -> Vec<u64> {
         Operation::Registry => vec![0, 1, 2, 3, 10, 11],
         Operation::Substitute => [vec![0, 1, 2, 3, 31, 34, 35], (41..=48).collect()].concat(),
         Operation::Expand => [vec![0, 1, 2, 3, 10, 11], (30..=48).collect()].concat(),
+        Operation::Older => vec![0, 1, 2, 3, 52],
     }
 }
 
@@ -79,12 +80,11 @@ impl Tally {
     }
 
     pub fn print(&self) {
-        println!("{:>8} {:>10} {:>10} {:>10} {:>10}", "number", "check", "registry", "substitute", "expand");
+        println!("{:>8}{}", "number", OPERATIONS.map(|op| format!(" {:>10}", op.name())).concat());
         let numbers: BTreeSet<u64> = self.numbers.keys().map(|(n, _)| *n).collect();
         for number in numbers {
             let of = |op| self.numbers.get(&(number, op)).map_or("-".to_string(), u64::to_string);
-            let [check, registry, substitute, expand] = OPERATIONS.map(of);
-            println!("{number:>8} {check:>10} {registry:>10} {substitute:>10} {expand:>10}");
+            println!("{number:>8}{}", OPERATIONS.map(|op| format!(" {:>10}", of(op))).concat());
         }
         println!("why 1, 2 and 3:");
         for ((number, reason), count) in &self.reasons {

@@ -29,6 +29,8 @@ pub enum Sort {
     Arguments,
     Parameters,
     Definitions,
+    /// A root: a condition, a term, a call, a definition or a list of definitions.
+    Any,
 }
 
 /// What an entry's value says.
@@ -50,8 +52,8 @@ pub fn codes(sort: Sort) -> &'static [u8] {
         Sort::Aggregate => &[34, 35, 36],
         Sort::Slot => &[43, 44, 45],
         Sort::Type => &[46, 47],
-        Sort::Within => &[48, 49, 50, 51, 52],
-        Sort::Interval => &[48, 49, 50, 51],
+        Sort::Within => &[48, 49, 50, 51, 52, 64],
+        Sort::Interval => &[48, 49, 50, 51, 64],
         Sort::Argument => &[55, 56, 57],
         Sort::Body => &[61, 62, 63],
         Sort::Call => &[54],
@@ -60,6 +62,10 @@ pub fn codes(sort: Sort) -> &'static [u8] {
         Sort::Span => &[42],
         Sort::Operator => &[53],
         Sort::Sigil => &[58, 59],
+        Sort::Any => &[
+            1, 2, 3, 4, 5, 6, 7, 8, 9, 10, 11, 12, 13, 20, 21, 22, 23, 24, 25, 26, 27, 28, 29, 30, 31, 32, 33, 41, 54,
+            60,
+        ],
         Sort::Texts | Sort::Fields | Sort::Binders | Sort::Arguments | Sort::Parameters | Sort::Definitions => &[41],
     }
 }
@@ -70,7 +76,7 @@ pub fn value(code: u8) -> Value {
         1..=13 | 34..=36 | 42 | 54 | 60 => Value::Span,
         22 | 23 | 27 | 32 | 33 | 40 | 43..=45 | 52 | 58 | 59 => Value::TextLength,
         25 | 26 | 29 | 41 | 47 => Value::Count,
-        21 | 48..=51 => Value::Any,
+        21 | 48..=51 | 64 => Value::Any,
         24 => Value::Below(2),
         31 => Value::Below(3),
         53 => Value::Below(6),
@@ -114,7 +120,7 @@ pub fn item(sort: Sort, code: u8) -> &'static [Sort] {
         (41, Sort::Binders) => &[Sort::Slot, Sort::Type],
         (41, Sort::Arguments) => &[Sort::Argument],
         (41, Sort::Parameters) => &[Sort::Span, Sort::Text],
-        (41, Sort::Definitions) => &[Sort::Definition],
+        (41, Sort::Definitions | Sort::Any) => &[Sort::Definition],
         _ => &[],
     }
 }
@@ -417,6 +423,36 @@ pub fn withdrawn(node: &Node) -> Node {
         return not(Node::new(1, node.value, negations));
     }
     Node { text: node.text.clone(), ..Node::new(node.code, node.value, children) }
+}
+
+/// How long an interval is.
+pub fn seconds(interval: &Node) -> Option<i128> {
+    let unit = match interval.code {
+        48 => 1,
+        49 => 60,
+        50 => 60 * 60,
+        51 => 24 * 60 * 60,
+        64 => 7 * 24 * 60 * 60,
+        _ => return None,
+    };
+    Some(i128::from(interval.value as i64) * unit)
+}
+
+/// The tree with weeks as days, so many as there were weeks: what upstream is shown.
+pub fn weeks_as_days(node: &Node) -> Node {
+    let code = if node.code == 64 { 51 } else { node.code };
+    let children = node.children.iter().map(weeks_as_days).collect();
+    Node { text: node.text.clone(), ..Node::new(code, node.value, children) }
+}
+
+/// The tree with weeks as days of equal length, if their number is a signed one of 64 bits.
+pub fn older(node: &Node) -> Option<Node> {
+    let children = node.children.iter().map(older).collect::<Option<_>>()?;
+    let (code, value) = match node.code {
+        64 => (51, (node.value as i64).checked_mul(7)? as u64),
+        code => (code, node.value),
+    };
+    Some(Node { text: node.text.clone(), ..Node::new(code, value, children) })
 }
 
 /// The figure that an accepted tree is over when it is rewritten without Or.

@@ -46,6 +46,10 @@ pub struct Style {
     pub wrong: usize,
     /// The 54s that may still stand inside one another.
     pub calls: usize,
+    /// Intervals in weeks.
+    pub weeks: usize,
+    /// Numbers of weeks that are too large for days.
+    pub wild: usize,
 }
 
 pub struct Trees<'a> {
@@ -67,6 +71,9 @@ const LEAST_DEFINITION: usize = 4;
 
 /// The most definitions that a registry's tape has room for, with the list's own entry.
 pub const MOST_DEFINITIONS: usize = (LARGEST.entries - 1) / LEAST_DEFINITION;
+
+/// The most weeks whose days have a number.
+const MOST_WEEKS: i64 = i64::MAX / 7;
 
 const NAMES: [&str; 14] = ["a", "b", "c", "d", "s", "t", "x", "y", "z", "w", "v", "f", "g", "h"];
 const ODD_NAMES: [&str; 10] = ["", " ", "`", "?x", "$t", "x y", "in", "a.b.c", "~~~~", "0"];
@@ -147,7 +154,18 @@ impl Trees<'_> {
     }
 
     pub fn interval(&mut self) -> Node {
+        if self.random.chance(self.style.weeks) {
+            return Node::new(64, self.weeks() as u64, vec![]);
+        }
         Node::new(self.random.within(48, 51) as u8, self.amount(), vec![])
+    }
+
+    fn weeks(&mut self) -> i64 {
+        if self.random.chance(self.style.wild) {
+            let beyond = [MOST_WEEKS + 1, -MOST_WEEKS - 1, i64::MAX, i64::MIN, self.random.number() as i64];
+            return *self.random.pick(&beyond);
+        }
+        *self.random.pick(&[0, 1, 2, 52, -1, -52, MOST_WEEKS, -MOST_WEEKS, MOST_WEEKS - 1, 1 - MOST_WEEKS])
     }
 
     fn binder_type(&mut self) -> Node {

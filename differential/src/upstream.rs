@@ -229,6 +229,7 @@ fn within(node: &Node) -> WithinSpec {
     }
 }
 
+/// Upstream has no weeks.
 fn interval(node: &Node) -> Interval {
     let unit = [TimeUnit::Seconds, TimeUnit::Minutes, TimeUnit::Hours, TimeUnit::Days][usize::from(node.code - 48)];
     Interval { amount: node.value as i64, unit }

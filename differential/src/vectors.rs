@@ -2,9 +2,9 @@
 
 use crate::case::{Answer, Case, OPERATIONS, Operation};
 
-const MARK: &[u8; 8] = b"ORACLEV1";
-/// Lists with room for later operations, which are read and not written.
-const LATER_MARK: &[u8; 8] = b"ORACLEV2";
+const MARK: &[u8; 8] = b"ORACLEV3";
+/// Lists from elsewhere, with another spelling of what no operation here has; read and not written.
+const OTHER_MARK: &[u8; 8] = b"ORACLEV2";
 
 pub fn write(vectors: &[(Case, Answer)]) -> Vec<u8> {
     let mut out = MARK.to_vec();
@@ -12,11 +12,15 @@ pub fn write(vectors: &[(Case, Answer)]) -> Vec<u8> {
     for (case, answer) in vectors {
         out.push(case.operation.number());
         put_u32(&mut out, case.limit as usize);
-        (0..2).for_each(|i| put_bytes(&mut out, case.tapes.get(i).map_or(&[], Vec::as_slice)));
+        out.extend([0; 6]);
+        out.push(case.tapes.len() as u8);
+        case.tapes.iter().for_each(|tape| put_bytes(&mut out, tape));
         case.sizes.iter().for_each(|n| put_u32(&mut out, *n));
         answer.numbers().iter().for_each(|n| out.extend_from_slice(&n.to_le_bytes()));
+        out.extend([0; 16]);
         put_bytes(&mut out, without_zeros(&answer.result));
         put_bytes(&mut out, without_zeros(&answer.message));
+        (0..2).for_each(|_| put_bytes(&mut out, &[]));
     }
     out
 }
@@ -47,12 +51,11 @@ pub struct Expected {
 pub fn read(bytes: &[u8]) -> Result<Vec<Expected>, String> {
     let mut r = Reader { rest: bytes };
     let mark = r.take(8)?;
-    if mark != MARK && mark != LATER_MARK {
+    if mark != MARK && mark != OTHER_MARK {
         return Err("no list of vectors".to_string());
     }
     let count = r.u32()?;
-    let one = |_| if mark == MARK { r.vector() } else { r.later_vector() };
-    let vectors = (0..count).map(one).collect::<Result<Vec<_>, _>>()?;
+    let vectors = (0..count).map(|_| r.vector(mark == MARK)).collect::<Result<Vec<_>, _>>()?;
     if r.rest.is_empty() { Ok(vectors) } else { Err(format!("{} bytes behind the last vector", r.rest.len())) }
 }
 
@@ -85,37 +88,27 @@ impl<'a> Reader<'a> {
         OPERATIONS.into_iter().find(|o| o.number() == number).ok_or(format!("no operation {number}"))
     }
 
-    fn sizes(&mut self) -> Result<[usize; 3], String> {
-        Ok([self.u32()? as usize, self.u32()? as usize, self.u32()? as usize])
+    /// What no operation here has must be 0.
+    fn zeros(&mut self, n: usize) -> Result<(), String> {
+        let known = self.take(n)?.iter().all(|b| *b == 0);
+        if known { Ok(()) } else { Err("a vector of another operation".to_string()) }
     }
 
-    fn numbers(&mut self) -> Result<[u64; 5], String> {
-        Ok([self.u64()?, self.u64()?, self.u64()?, self.u64()?, self.u64()?])
-    }
-
-    fn vector(&mut self) -> Result<Expected, String> {
-        let (operation, limit) = (self.operation()?, self.u32()?);
-        let mut tapes = vec![self.bytes()?, self.bytes()?];
-        tapes.truncate(operation.roots().len());
-        let case = Case { operation, limit, tapes, sizes: self.sizes()? };
-        Ok(Expected { case, numbers: self.numbers()?, result: self.bytes()?, message: self.bytes()? })
-    }
-
-    /// What belongs to later operations has to be 0.
-    fn later_vector(&mut self) -> Result<Expected, String> {
+    fn vector(&mut self, ours: bool) -> Result<Expected, String> {
         let (operation, limit) = (self.operation()?, self.u32()?);
         self.zeros(6)?;
         let count = self.take(1)?[0];
         let tapes = (0..count).map(|_| self.bytes()).collect::<Result<_, _>>()?;
-        let case = Case { operation, limit, tapes, sizes: self.sizes()? };
-        self.zeros(1)?;
-        let numbers = self.numbers()?;
+        let sizes = [self.u32()? as usize, self.u32()? as usize, self.u32()? as usize];
+        if !ours {
+            self.zeros(1)?;
+        }
+        let numbers = [self.u64()?, self.u64()?, self.u64()?, self.u64()?, self.u64()?];
         self.zeros(16)?;
-        Ok(Expected { case, numbers, result: self.bytes()?, message: self.bytes()? })
-    }
-
-    fn zeros(&mut self, n: usize) -> Result<(), String> {
-        let known = self.take(n)?.iter().all(|b| *b == 0);
-        if known { Ok(()) } else { Err("a vector of a later operation".to_string()) }
+        let (result, message) = (self.bytes()?, self.bytes()?);
+        if ours {
+            self.zeros(8)?;
+        }
+        Ok(Expected { case: Case { operation, limit, tapes, sizes }, numbers, result, message })
     }
 }

@@ -11,7 +11,8 @@ use Rattle.format.specs.Entry.{Text, encode}
 use Rattle.format.specs.Ast.{Tree}
 use Rattle.format.specs.Flat.{flatTree}
 use Rattle.definition.specs.Outcome.{Refusal, refusal, Outcome, openOutcome}
-use Rattle.definition.specs.Answers.{Answer, Buffers, padded, answer, verdict, messageAlone, openAnswers}
+use Rattle.definition.specs.Answers.{Answer, Buffers, padded, answer, numberAlone, verdict, messageAlone, openAnswers}
+use Rattle.definition.specs.Older.{resultAlone}
 use Rattle.buffer.specs.Buffer.{Message, messageIn as written}
 use Rattle.nodes.specs.Node.{spanOf}
 use Rattle.tape.specs.declared.layout.Layout.{Layout}
@@ -68,9 +69,9 @@ module _ {s : List ℕ} {d : Layout} {t : List ℕ} {c : Layout} where
 
 -- ------------------------------------------------------------------ other contents of a buffer
 
--- the same answer with other contents of result and work
-abbrev holding : List ℕ → List ℕ → Answer → Answer
-holding result work a =
+-- the same answer with other contents of the buffers
+abbrev holding : (result work message : List ℕ) → Answer → Answer
+holding result work message a =
     record {
       number = a .number;
       start = a .start;
@@ -79,23 +80,35 @@ holding result work a =
       charged = a .charged;
       result = result;
       work = work;
-      message = a .message;
+      message = message;
     }
 
 -- buffers that an operation has not stay empty
 pub message-alone : {r : code.Answer} {result work message : List ℕ} (m : ℕ) (o : Outcome (Unit {0}))
     → answerWith r result work message ≡ ended (messageAlone m) o → answerWith r [] [] message ≡ ended (messageAlone m) o
 unfolding ended openAnswers
-message-alone m (Outcome.done u k) e = ap (holding [] []) e
-message-alone m (Outcome.refused r k) e = ap (holding [] []) e
+message-alone m (Outcome.done u k) e = ap (λ (a : Answer). holding [] [] (a .message) a) e
+message-alone m (Outcome.refused r k) e = ap (λ (a : Answer). holding [] [] (a .message) a) e
+
+pub result-alone : {r : code.Answer} {result work message : List ℕ} (n number : ℕ)
+    → answerWith r result work message ≡ ended (resultAlone n) (numberAlone number)
+    → answerWith r result [] [] ≡ ended (resultAlone n) (numberAlone number)
+unfolding ended openAnswers
+result-alone n number e = ap (λ (a : Answer). holding (a .result) [] [] a) e
+
+pub no-buffers : {r : code.Answer} {result work message : List ℕ} (number : ℕ)
+    → answerWith r result work message ≡ ended (resultAlone 0) (numberAlone number)
+    → answerWith r [] [] [] ≡ ended (resultAlone 0) (numberAlone number)
+unfolding ended openAnswers
+no-buffers number e = ap (holding [] [] []) e
 
 -- a result that stands in its buffer already
-result-written : {r : code.Answer} {none result work message : List ℕ} (n l m : ℕ) (tree : Tree) (k : ℕ)
-    → result ≡ padded n (encode (flatTree tree)) → answerWith r none work message ≡ ended (buffers 0 l m) (Outcome.refused (refusal 0 0 []) k)
-    → answerWith r result work message ≡ treeEnd (buffers n l m) (Outcome.done tree k)
+pub result-written : {A : Type 0} (tape : A → List ℕ) {r : code.Answer} {none result work message : List ℕ} (n l m : ℕ) (a : A) (k : ℕ)
+    → result ≡ padded n (tape a) → answerWith r none work message ≡ ended (buffers 0 l m) (Outcome.refused (refusal 0 0 []) k)
+    → answerWith r result work message ≡ answer tape (buffers n l m) (Outcome.done a k)
 unfolding ended openAnswers openOutcome
-result-written {result = result} n l m tree k p e =
-    ap (λ (a : Answer). holding result (a .work) a) e ∙ rw p
+result-written tape {result = result} n l m a k p e =
+    ap (λ (z : Answer). holding result (z .work) (z .message) z) e ∙ rw p
 
 -- ------------------------------------------------------------------ verdicts
 
@@ -120,7 +133,7 @@ module _ (s : List ℕ) (d : Layout) (t : List ℕ) (c : Layout) (bytes : List �
   unfolding OutcomeMatches
   going-answered before l m {st} p f e (Outcome.done tree k) h large short =
       let g = rw p at h in
-      result-written (length before) l m tree k (f ∙ finish-fits (g .1) before (g .2) large)
+      result-written (λ (t : Tree). encode (flatTree t)) (length before) l m tree k (f ∙ finish-fits (g .1) before (g .2) large)
       (e ∙ ap (λ (n : ℕ). ended (buffers 0 l m) (Outcome.refused (refusal 0 0 []) n)) (g .0))
   going-answered before l m p f e (Outcome.refused x k) h large short = absurd (rw p at h)
 

@@ -1,3 +1,3 @@
 -- The laws that several proofs of the crate, and of the operations, cite.
-mod Ends
+pub mod Ends
 pub mod Operations

@@ -35,7 +35,7 @@ use Rattle.answer.specs.declared.tapes.Accepted.the-variants.{Both, Refu
 -- ------------------------------------------------------------------ tapes
 
 -- a tape that is refused
-refused-tape : {A B : Type 0} (root : Root A) {sort n : ℕ} → RootOf root sort → (s : List ℕ) (k : A → Outcome B)
+pub refused-tape : {A B : Type 0} (root : Root A) {sort n : ℕ} → RootOf root sort → (s : List ℕ) (k : A → Outcome B)
     → acceptOf s sort ≡ opened.Refused n → reading (accept (weighted root) s) k ≡ numberAlone n
 unfolding reading
 refused-tape {A} root {n = n} r s k e = go (answers r s) e
@@ -77,7 +77,7 @@ module _ (s t : List ℕ) (i j : ℕ) {d c : Layout} (e : acceptTwo s i t j ≡ 
   second-accepted = both-accepted (acceptOf s i) (acceptOf t j) e .1
 
 -- what is read is the rewriting of what is accepted with the figures of the rewritten tape
-read-rewritten : {A B : Type 0} {root : Root A} → Rewrites root → Lawful root → (s : List ℕ) → Bytes s → (k : A → Outcome B)
+pub read-rewritten : {A B : Type 0} {root : Root A} → Rewrites root → Lawful root → (s : List ℕ) → Bytes s → (k : A → Outcome B)
     → reading (read root s) k ≡ reading (accept (weighted root) s) (λ x. k (rewritten root x))
 unfolding reading mapReading
 read-rewritten {A} {root = root} w law s bytes k = rw (read-as root w law s bytes .one-scan) (go (accept (weighted root) s))
@@ -125,7 +125,7 @@ long-enough b e =
 -- ------------------------------------------------------------------ the operation's answer
 
 -- what the definition says of an operation: 1 where a buffer is too short, and else the answer of its outcome
-abbrev operation : {A : Type 0} → (A → List ℕ) → Buffers → Bool → Outcome A → Answer
+abbrev pub operation : {A : Type 0} → (A → List ℕ) → Buffers → Bool → Outcome A → Answer
 operation tape b long o = answer tape b (elim long [ true ↦ o | false ↦ numberAlone 1 ])
 
 answer-length : {A : Type 0} (tape : A → List ℕ) (b : Buffers) (o : Outcome A) → answer tape b o .messageLength ≡ length (messageIn o)
@@ -134,11 +134,11 @@ answer-length tape b (Outcome.done a k) = refl
 answer-length tape b (Outcome.refused r k) = refl
 
 module _ {A : Type 0} (tape : A → List ℕ) (b : Buffers) (o : Outcome A) {long : Bool} {a : Answer} where
-  ends-short : long ≡ false → a ≡ ended b (numberAlone 1) → a ≡ operation tape b long o
+  pub ends-short : long ≡ false → a ≡ ended b (numberAlone 1) → a ≡ operation tape b long o
   unfolding ended answer numberAlone
   ends-short h e = rw h e
 
-  ends-refused : (n : ℕ) → long ≡ true → o ≡ numberAlone n → a ≡ ended b (numberAlone n) → a ≡ operation tape b long o
+  pub ends-refused : (n : ℕ) → long ≡ true → o ≡ numberAlone n → a ≡ ended b (numberAlone n) → a ≡ operation tape b long o
   unfolding ended answer numberAlone
   ends-refused n h q e = rw (h, q) e
 

@@ -11,6 +11,7 @@ ghost use mathlib.Core.Path.{_≡_};
 ghost use lib.ListN.{length};
 ghost use Rattle.definition.specs.Outcome.{refusal, Outcome};
 ghost use Rattle.definition.specs.Answers.{longBuffers, messageAlone, numberAlone};
+ghost use Rattle.definition.specs.Older.{resultAlone};
 ghost use Rattle.answer.specs.Matches.{answerWith, buffers, ended, AnswersRefusal, AnswersVerdict, AnswersOutcome};
 
 pub mod tapes;
@@ -94,6 +95,20 @@ pub fn refuse_number(number: u32, message: &mut [u8]) -> Answer
     ensures { λ r. ⌜ answerWith r [] [] (now (message .exit)) ≡ ended (messageAlone (length (now (message .entry)))) (numberAlone number) ⌝ }
 {
     number_alone(number, 0, &mut [], &mut [], message)
+}
+
+// The same of one that has a result buffer alone.
+pub fn refuse_result(number: u32, result: &mut [u8]) -> Answer
+    ensures { λ r. ⌜ answerWith r (now (result .exit)) [] [] ≡ ended (resultAlone (length (now (result .entry)))) (numberAlone number) ⌝ }
+{
+    number_alone(number, 0, result, &mut [], &mut [])
+}
+
+// Success of such an operation, which has written its result and charges nothing.
+pub fn result_written() -> Answer
+    ensures { λ r. ⌜ answerWith r [] [] [] ≡ ended (resultAlone 0) (numberAlone 0) ⌝ }
+{
+    number_alone(0, 0, &mut [], &mut [], &mut [])
 }
 
 // The answer of a verdict, of an operation that has one tape and a message buffer alone, and charges nothing.

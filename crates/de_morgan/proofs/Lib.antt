@@ -1,5 +1,5 @@
 -- Laws of the rewritten tape.
 mod Sides
 mod Heads
-mod Becoming
+pub mod Becoming
 pub mod Rewritten

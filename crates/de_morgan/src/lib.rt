@@ -205,7 +205,7 @@ fn none_among(codes: &[u8]) -> bool
 }
 
 // Whether no entry of a layout is an Or.
-fn none_on(s: &[u8], l: Layout) -> bool
+pub fn none_on(s: &[u8], l: Layout) -> bool
     ensures { λ r. ⌜ r ≡ eqb (orsIn (now (s .entry)) l) 0 ⌝ }
 {
     if !holds(s, l) {

@@ -118,6 +118,7 @@ free-unit TimeUnit.Seconds = refl
 free-unit TimeUnit.Minutes = refl
 free-unit TimeUnit.Hours = refl
 free-unit TimeUnit.Days = refl
+free-unit TimeUnit.Weeks = refl
 
 pub free-interval : (i : Interval) → FreeWithin (WithinSpec.Concrete i)
 unfolding flatWithin flatInterval

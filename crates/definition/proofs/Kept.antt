@@ -173,7 +173,7 @@ tape-length t h =
     let q = fitting (length es) (length (textOf es)) k in
     omega (arith, length-encode es)
 
-bounded-done : {A : Type 0} (tape : A → List ℕ) (b : Buffers) (limit : ℕ) (a : A) (n : ℕ) → n ≤ limit → length (tape a) ≤ b .resultLength
+pub bounded-done : {A : Type 0} (tape : A → List ℕ) (b : Buffers) (limit : ℕ) (a : A) (n : ℕ) → n ≤ limit → length (tape a) ≤ b .resultLength
     → Bounded b limit (answer tape b (Outcome.done a n))
 unfolding answer
 bounded-done tape b limit a n h k =
@@ -198,7 +198,7 @@ bounded-refused tape b limit r n h s k =
     }
 
 -- a refusal without message
-bounded-number-alone : {A : Type 0} (tape : A → List ℕ) (b : Buffers) (limit number : ℕ) → Bounded b limit (answer tape b (numberAlone number))
+pub bounded-number-alone : {A : Type 0} (tape : A → List ℕ) (b : Buffers) (limit number : ℕ) → Bounded b limit (answer tape b (numberAlone number))
 unfolding numberAlone
 bounded-number-alone tape b limit number = bounded-refused tape b limit _ 0 (omega arith) no-message (omega arith)
 

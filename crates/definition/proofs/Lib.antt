@@ -5,6 +5,7 @@ pub mod Residue
 pub mod Kept
 pub mod Whole
 pub mod Withdrawn
+pub mod Older
 pub mod SameVerdicts
 pub mod Names
 pub mod Size

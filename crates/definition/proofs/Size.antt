@@ -31,6 +31,7 @@ size-interval i = go (i .unit)
     go TimeUnit.Minutes = refl
     go TimeUnit.Hours = refl
     go TimeUnit.Days = refl
+    go TimeUnit.Weeks = refl
 
 size-within : (w : WithinSpec) → size (flatWithin w ∷ []) ≡ 0
 unfolding size flatWithin isNode weigh

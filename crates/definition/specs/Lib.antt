@@ -13,4 +13,5 @@ pub mod Residue
 pub mod Kept
 pub mod Whole
 pub mod Withdrawn
+pub mod Older
 pub mod Cases

@@ -20,7 +20,7 @@ use Rattle.format.specs.DeMorgan.{deMorgan}
 use Rattle.format.proofs.All.{All, all-nil, all-cons, all-head, all-tail, all-append, all-left, all-right}
 use Rattle.format.proofs.Counts.{length-args, length-fields, length-terms, length-defs}
 use Rattle.format.proofs.Stands.{text-append}
-use Rattle.format.proofs.Parts.{Part, part-texts, part-interval, part-within, part-slot, part-binder, part-binders, part-sigil, part-params, part-no-or}
+use Rattle.format.proofs.Parts.{Later, Part, part-texts, later-interval, later-within, part-slot, part-binder, part-binders, part-sigil, part-params, later, later-no-or}
 
 pub data Becomes : List Entry → List Entry → Type 0 where
   nothing : Becomes [] []
@@ -31,8 +31,11 @@ pub data Becomes : List Entry → List Entry → Type 0 where
 
 -- ------------------------------------------------------------------ trees
 
+timed : {e : Entry} {es fs : List Entry} → Later e → Becomes es fs → Becomes (e ∷ es) (e ∷ fs)
+timed {e} h b = kept (later-no-or e h) b
+
 part : {e : Entry} {es fs : List Entry} → Part e → Becomes es fs → Becomes (e ∷ es) (e ∷ fs)
-part {e} h b = kept (part-no-or (e .code) h) b
+part {e} h b = timed (later e h) b
 
 parts : {es : List Entry} → All Part es → Becomes es es
 parts all-nil = nothing
@@ -49,17 +52,17 @@ mutual
   becomes-condition (Condition.Or s l r) = parted l r (becomes-condition l) (becomes-condition r)
   becomes-condition (Condition.And s l r) = kept refl (joined (becomes-condition l) (becomes-condition r))
   becomes-condition (Condition.Not s c) = kept refl (becomes-condition c)
-  becomes-condition (Condition.Formerly s w c) = kept refl (part (part-within w) (becomes-condition c))
-  becomes-condition (Condition.Previous s w c) = kept refl (part (part-within w) (becomes-condition c))
+  becomes-condition (Condition.Formerly s w c) = kept refl (timed (later-within w) (becomes-condition c))
+  becomes-condition (Condition.Previous s w c) = kept refl (timed (later-within w) (becomes-condition c))
   becomes-condition (Condition.Since s l w r) =
-      kept refl (joined (becomes-condition l) (part (part-within w) (becomes-condition r)))
+      kept refl (joined (becomes-condition l) (timed (later-within w) (becomes-condition r)))
   becomes-condition (Condition.Predicate s o ns a k fs) =
       kept refl (kept refl (kept refl (joined (parts (part-texts ns)) (kept refl (kept refl (counted refl (length-fields deMorgan fs) (becomes-fields fs)))))))
   becomes-condition (Condition.Comparison s op l r) = kept refl (kept refl (joined (becomes-term l) (becomes-term r)))
   becomes-condition (Condition.Exists s b c) = kept refl (joined (parts (part-binder b)) (becomes-condition c))
   becomes-condition (Condition.Tp s v) = kept refl (part (part-slot v) nothing)
   becomes-condition (Condition.ConditionCall s c) = kept refl (becomes-call c)
-  becomes-condition (Condition.SigilRef s g n) = kept refl (part (part-sigil g) nothing)
+  becomes-condition (Condition.SigilRef s g n) = kept refl (part (part-sigil g n) nothing)
   becomes-condition (Condition.Refine s o c fs) =
       kept refl (kept refl (joined (becomes-condition c) (counted refl (length-fields deMorgan fs) (becomes-fields fs))))
 
@@ -91,7 +94,7 @@ mutual
   becomes-arg : (a : CallArg) → Becomes (flatArg a) (flatArg (replaceArg deMorgan a))
   becomes-arg (CallArg.ConditionArg c) = kept refl (becomes-condition c)
   becomes-arg (CallArg.TermArg t) = kept refl (becomes-term t)
-  becomes-arg (CallArg.WithinArg i) = kept refl (part (part-interval i) nothing)
+  becomes-arg (CallArg.WithinArg i) = kept refl (timed (later-interval i) nothing)
 
   becomes-args : (args : CallArgs) → Becomes (flatArgs args) (flatArgs (replaceArgs deMorgan args))
   becomes-args CallArgs.noArgs = nothing

@@ -65,6 +65,7 @@ wait-interval i st = go (i .unit)
     go TimeUnit.Minutes = refl
     go TimeUnit.Hours = refl
     go TimeUnit.Days = refl
+    go TimeUnit.Weeks = refl
 
 wait-within : (w : WithinSpec) → Waits (flatWithin w)
 unfolding pushes flatWithin
@@ -123,6 +124,7 @@ finds-interval i st = go (i .unit)
     go TimeUnit.Minutes = refl
     go TimeUnit.Hours = refl
     go TimeUnit.Days = refl
+    go TimeUnit.Weeks = refl
 
 finds-within : (w : WithinSpec) (st : Stack) → popWithin (Item.leaf (flatWithin w) ∷ st) ≡ some (w, st)
 unfolding pops popWithin withinRows mapRows intervalRows interval flatWithin flatInterval flatUnit
@@ -135,6 +137,7 @@ finds-within (WithinSpec.Concrete i) st = go (i .unit)
     go TimeUnit.Minutes = refl
     go TimeUnit.Hours = refl
     go TimeUnit.Days = refl
+    go TimeUnit.Weeks = refl
 
 finds-slot : (v : BinderSlot) (st : Stack) → popSlot (Item.leaf (flatSlot v) ∷ st) ≡ some (v, st)
 unfolding pops popSlot slotRows flatSlot
@@ -381,7 +384,7 @@ mutual
       )
       refl
 
-  builds-term : (t : Term) (st : Stack) → buildOn (some st) (flatTerm t) ≡ some (Item.term t ∷ st)
+  pub builds-term : (t : Term) (st : Stack) → buildOn (some st) (flatTerm t) ≡ some (Item.term t ∷ st)
   builds-term (Term.Entity ty id) st =
       rw (finds-text ty (Item.leaf (textEntry 40 id) ∷ st), finds-text id st) refl
   builds-term (Term.Integer n) st = refl

@@ -139,6 +139,7 @@ well-interval i = go (i .unit)
     go TimeUnit.Minutes = refl
     go TimeUnit.Hours = refl
     go TimeUnit.Days = refl
+    go TimeUnit.Weeks = refl
 
 well-within : (w : WithinSpec) → length (flatWithin w .text) ≡ textWidth (isText (flatWithin w .code)) (flatWithin w .value)
 unfolding flatWithin isText isCode textWidth

@@ -17,3 +17,6 @@ pub mod Becomes
 pub mod Weights
 pub mod Unchanged
 pub mod Rewritten
+pub mod Signed
+pub mod Older
+pub mod LastYear

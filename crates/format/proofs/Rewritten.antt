@@ -4,7 +4,7 @@ use Prim.Native.Nat.{ℕ, _+_, _*_, _≤_}
 use native.Mathlib.Omega.{arith}
 use mathlib.Core.Path.{_≡_, refl, sym, _∙_, ap, subst}
 use mathlib.Core.List.{List, [], _∷_}
-use mathlib.Core.Bool.{Bool, true, false, _&&_, _||_, false≢true}
+use mathlib.Core.Bool.{Bool, true, false, _&&_}
 use mathlib.Core.Option.{Option, none, some}
 use lib.Dec.{T, leb, eqb, leb→le, le→leb}
 use lib.ListN.{length}
@@ -18,7 +18,7 @@ use Rattle.format.specs.Build.{Stack, build}
 use Rattle.format.specs.Tape.{Reading, Root, fewParams, fewParamsEach, conditionRoot, definitionRoot, callRoot, registryRoot, treeRoot, shortTexts, small, readLimits, readTape, readRoot, readStack, readTree, accept, fits, rewrite, read, Bytes, rewritten}
 use Rattle.format.specs.Rewritten.{Rewriting, weighted, mapReading, ReadAs}
 use Rattle.format.proofs.All.{All, all-nil, all-cons, all-both}
-use Rattle.format.proofs.Tests.{and-left, and-right, and-both, is-true}
+use Rattle.format.proofs.Tests.{and-left, and-right, and-both, or-none, or-neither, is-true}
 use Rattle.format.proofs.Spells.{flatStack, s-at-root, build-spells}
 use Rattle.format.proofs.Accepted.{InRange, OnTape, accepted-on-tape, Accepts, was-malformed, was-too-large, was-accepted, Entries, reads-tape}
 use Rattle.format.proofs.Encodes.{fitting}
@@ -36,19 +36,11 @@ unfolding holds
 no-holds all-nil = refl
 no-holds (all-cons h f) = rw h (no-holds f)
 
-or-left : (a b : Bool) → (a || b) ≡ false → a ≡ false
-or-left true b h = h
-or-left false b h = refl
-
-or-right : (a b : Bool) → (a || b) ≡ false → b ≡ false
-or-right true b h = absurd (false≢true (sym h))
-or-right false b h = h
-
 pub holds-no : (es : List Entry) → holds 2 es ≡ false → All NoOr es
 unfolding holds
 holds-no [] h = all-nil
 holds-no (e ∷ es) h =
-    all-cons (or-left (eqb (e .code) 2) (holds 2 es) h) (holds-no es (or-right (eqb (e .code) 2) (holds 2 es) h))
+    all-cons (or-none (eqb (e .code) 2) (holds 2 es) h) (holds-no es (or-neither (eqb (e .code) 2) (holds 2 es) h))
 
 -- ------------------------------------------------------------------ each root
 

@@ -152,7 +152,7 @@ s-condition : Spells flatCondition [] popCondition
 unfolding popCondition
 s-condition = s-pop sorted-condition
 
-s-term : Spells flatTerm [] popTerm
+pub s-term : Spells flatTerm [] popTerm
 unfolding popTerm
 s-term = s-pop sorted-term
 
@@ -280,7 +280,8 @@ s-intervals =
     s-row (s-number 48 _ λ n. s-give _ refl)
     (s-row (s-number 49 _ λ n. s-give _ refl)
     (s-row (s-number 50 _ λ n. s-give _ refl)
-    (s-row (s-number 51 _ λ n. s-give _ refl) s-end)))
+    (s-row (s-number 51 _ λ n. s-give _ refl)
+    (s-row (s-number 64 _ λ n. s-give _ refl) s-end))))
 
 s-interval : Spells flatIntervalList [] popInterval
 unfolding popInterval

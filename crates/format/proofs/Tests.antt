@@ -1,7 +1,7 @@
 -- Tests put together of others.
 -- Assumes nothing.
 use mathlib.Core.Path.{_≡_, refl, subst, sym}
-use mathlib.Core.Bool.{Bool, true, false, _&&_}
+use mathlib.Core.Bool.{Bool, true, false, _&&_, _||_, false≢true}
 use lib.Dec.{T}
 
 pub and-left : (a b : Bool) → T (a && b) → T a
@@ -32,6 +32,15 @@ is-false {b} = go b
 
 pub from-true : {b : Bool} → b ≡ true → T b
 from-true e = subst T (sym e) tt
+
+-- neither of two tests
+pub or-none : (a b : Bool) → (a || b) ≡ false → a ≡ false
+or-none true b h = h
+or-none false b h = refl
+
+pub or-neither : (a b : Bool) → (a || b) ≡ false → b ≡ false
+or-neither true b h = absurd (false≢true (sym h))
+or-neither false b h = h
 
 -- two tests that say the same
 pub same-test : {a b : Bool} → (T a → T b) → (T b → T a) → a ≡ b

@@ -183,6 +183,7 @@ intervalRows =
     ∷ row 49 (number λ n. give (interval TimeUnit.Minutes n))
     ∷ row 50 (number λ n. give (interval TimeUnit.Hours n))
     ∷ row 51 (number λ n. give (interval TimeUnit.Days n))
+    ∷ row 64 (number λ n. give (interval TimeUnit.Weeks n))
     ∷ []
 
 unfoldable pub popInterval : Pop Interval

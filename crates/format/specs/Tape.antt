@@ -9,13 +9,13 @@ use lib.Dec.{leb, eqb}
 use lib.ListN.{length, take, drop}
 use Rattle.format.specs.Entry.{Text, Entry, textOf}
 use Rattle.format.specs.Utf8.{wellTexts}
-use Rattle.format.specs.Ast.{Condition, Call, Tree, MacroDef}
-use Rattle.format.specs.Flat.{flatCondition, flatCall, flatTree, flatDef, flatRegistry}
+use Rattle.format.specs.Ast.{Condition, Term, Call, Tree, MacroDef}
+use Rattle.format.specs.Flat.{flatCondition, flatTerm, flatCall, flatTree, flatDef, flatRegistry}
 use Rattle.format.specs.Macro.{isCode}
-use Rattle.format.specs.Limits.{nodeWeight, callWeight, deepCondition, deepCall, deepTree, deepBody, deepBodies, fitsSizes, fitsDepths}
-use Rattle.format.specs.Replace.{Replacement, replaceCondition, replaceCall, replaceTree, replaceDef, replaceDefs}
+use Rattle.format.specs.Limits.{nodeWeight, callWeight, deepCondition, deepTerm, deepCall, deepTree, deepBody, deepBodies, fitsSizes, fitsDepths}
+use Rattle.format.specs.Replace.{Replacement, replaceCondition, replaceTerm, replaceCall, replaceTree, replaceDef, replaceDefs}
 use Rattle.format.specs.DeMorgan.{deMorgan}
-use Rattle.format.specs.Build.{Stack, Pop, pop, asCondition, asCall, asDefinition, asTree, listOf, build}
+use Rattle.format.specs.Build.{Stack, Pop, pop, asCondition, asTerm, asCall, asDefinition, asTree, listOf, build}
 
 -- 2, 3, or what was read
 pub data Reading (A : Type 0) : Type 0 where
@@ -155,6 +155,18 @@ registryRoot =
       replace = replaceDefs;
     }
 
+-- "a lone term too" (document 02, point 8), where it is an input
+unfoldable pub termRoot : Root Term
+termRoot =
+    record {
+      reader = pop asTerm;
+      flat = flatTerm;
+      texts = shortTexts;
+      deep = deepTerm;
+      few = λ t. true;
+      replace = replaceTerm;
+    }
+
 -- "A result's root is a condition or a term." The length of a text is an input's figure and not a result's.
 unfoldable pub treeRoot : Root Tree
 treeRoot =
@@ -223,6 +235,6 @@ Bytes (b ∷ bs) = (b < 256) × Bytes bs
 unfoldable pub openTape : Unit {0}
 unfolding
     fromLe isText textWidth cons takeEntry split readTexts readSections readSizes readTape fewParams
-    fewParamsEach conditionRoot definitionRoot callRoot registryRoot treeRoot longestText shortTexts small readLimits
+    fewParamsEach conditionRoot definitionRoot callRoot registryRoot termRoot treeRoot longestText shortTexts small readLimits
     readRoot readStack readTree accept fits rewrite read
 openTape = tt

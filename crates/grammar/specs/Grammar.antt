@@ -109,6 +109,10 @@ pub record Sort : Type 0 where
 abbrev pub codes : ℕ → ℕ → Sort
 codes low high = record { ranges = range low high ∷ []; own = once []; few = false }
 
+-- the same with a code more, above them
+abbrev pub codesAnd : ℕ → ℕ → ℕ → Sort
+codesAnd low high one = record { ranges = range low high ∷ range one one ∷ []; own = once []; few = false }
+
 -- the sort says it
 abbrev pub codesWith : ℕ → ℕ → Follows → Sort
 codesWith low high own = record { ranges = range low high ∷ []; own = own; few = false }
@@ -135,8 +139,8 @@ sorts =
     ∷ codes 42 42  -- span
     ∷ codes 43 45  -- slot
     ∷ codes 46 47  -- type
-    ∷ codes 48 52  -- within
-    ∷ codes 48 51  -- interval
+    ∷ codesAnd 48 52 64  -- within
+    ∷ codesAnd 48 51 64  -- interval
     ∷ codes 53 53  -- operator
     ∷ codes 54 54  -- call
     ∷ codes 55 57  -- argument
@@ -273,7 +277,7 @@ rows =
     ∷ row 1 []  -- 61 body: Cedar
     ∷ row 1 (condition ∷ [])  -- 62 body: condition
     ∷ row 1 (term ∷ [])  -- 63 body: term
-    ∷ unused
+    ∷ row any []  -- 64 weeks
     ∷ unused
     ∷ unused
     ∷ unused

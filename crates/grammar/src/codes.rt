@@ -90,8 +90,8 @@ const GRAMMAR: [u64; 109] = [
     42 + 256 * 43, // 5 span: 42
     43 + 256 * 46, // 6 slot: 43 to 45
     46 + 256 * 48, // 7 type: 46 to 47
-    48 + 256 * 53, // 8 within: 48 to 52
-    48 + 256 * 52, // 9 interval: 48 to 51
+    48 + 256 * 53 + 65536 * 64 + 16777216 * 65, // 8 within: 48 to 52 and 64
+    48 + 256 * 52 + 65536 * 64 + 16777216 * 65, // 9 interval: 48 to 51 and 64
     53 + 256 * 54, // 10 operator: 53
     54 + 256 * 55, // 11 call: 54
     55 + 256 * 58, // 12 argument: 55 to 57
@@ -179,7 +179,7 @@ const GRAMMAR: [u64; 109] = [
     0o1_00_00_00_00_00, // 61 body: Cedar
     0o1_00_00_00_00_01, // 62 body: condition
     0o1_00_00_00_00_02, // 63 body: term
-    UNUSED,
+    0, // 64 weeks
     UNUSED,
     UNUSED,
     UNUSED,

@@ -4,6 +4,7 @@ ghost use mathlib.Core.List.{[]};
 ghost use mathlib.Core.Path.{_≡_};
 ghost use lib.ListN.{length};
 ghost use Rattle.definition.specs.Answers.{checkAnswer, registryAnswer, substituteAnswer, expandAnswer};
+ghost use Rattle.definition.specs.Older.{olderAnswer};
 ghost use Rattle.answer.specs.Matches.{buffers};
 ghost use Rattle.neukolja.specs.Words.{wordsOf, wordsWith};
 
@@ -69,4 +70,11 @@ pub extern "C" fn neukolja_expand<'a>(
         expansion::expand(registry, condition, limit, result, work, message),
         answer,
     );
+}
+
+#[no_mangle]
+pub extern "C" fn neukolja_older(tape: &[u8], result: &mut [u8], answer: &mut [u64; 5])
+    ensures { λ _. ⌜ wordsWith (now (answer .exit)) (now (result .exit)) [] [] ≡ olderAnswer (length (now (result .entry))) (now (tape .entry)) ⌝ }
+{
+    write_words(older::older(tape, result), answer);
 }

@@ -166,6 +166,7 @@ module _ {s : List ℕ} {l : Layout} {p : Place} where
       go TimeUnit.Minutes h = rw (is-entry h)
       go TimeUnit.Hours h = rw (is-entry h)
       go TimeUnit.Days h = rw (is-entry h)
+      go TimeUnit.Weeks h = rw (is-entry h)
   parts-within (WithinSpec.ParamRef n) h = named-at _ h (rw (is-entry h))
 
   pub past-type : (t : BinderType) → Inside s l p (flatType t) → pastTypeAt s l p ≡ At (past (flatType t) p)

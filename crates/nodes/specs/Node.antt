@@ -264,6 +264,7 @@ withinRows name next =
     ∷ (50, wr.Node within.Concrete next)
     ∷ (51, wr.Node within.Concrete next)
     ∷ (52, wr.Node (within.ParamRef name) next)
+    ∷ (64, wr.Node within.Concrete next)
     ∷ []
 
 unfoldable pub withinAt : List ℕ → Layout → Place → WithinRead

@@ -448,6 +448,7 @@ pub fn read_within(s: &[u8], l: Layout, p: Place) -> WithinRead
         50 => WithinRead::Node(WithinNode::Concrete, next),
         51 => WithinRead::Node(WithinNode::Concrete, next),
         52 => WithinRead::Node(WithinNode::ParamRef(name), next),
+        64 => WithinRead::Node(WithinNode::Concrete, next),
         _ => WithinRead::Refused(malformed()),
     }
 }

@@ -50,6 +50,7 @@ other-interval i = go (i .unit)
     go TimeUnit.Minutes = refl
     go TimeUnit.Hours = refl
     go TimeUnit.Days = refl
+    go TimeUnit.Weeks = refl
 
 other-within : (w : WithinSpec) → Other (flatWithin w)
 unfolding flatWithin

@@ -3,7 +3,7 @@
 use Prim.Native.Nat.{ℕ}
 use mathlib.Core.Path.{_≡_, refl}
 use mathlib.Core.List.{List, [], _∷_}
-use mathlib.Core.Bool.{Bool, true, false, _&&_}
+use mathlib.Core.Bool.{Bool, true, false, _&&_, _||_}
 use mathlib.Core.Option.{Option, none, some}
 use lib.Dec.{leb}
 use Rattle.format.specs.Entry.{Text, Entry}
@@ -65,7 +65,7 @@ between low high root = leb low root && leb root high
 -- whether a code is one of conditions, of terms, of intervals
 abbrev pub Ranges : ℕ → Bool → Bool → Bool → Type 0
 Ranges root condition term interval =
-    (between 1 13 root ≡ condition) × (between 20 33 root ≡ term) × (between 48 51 root ≡ interval)
+    (between 1 13 root ≡ condition) × (between 20 33 root ≡ term) × ((between 48 51 root || between 64 64 root) ≡ interval)
 
 pub ranges-condition : (c : Condition) → Ranges (rootCondition c) true false false
 unfolding rootCondition
@@ -106,6 +106,7 @@ ranges-unit TimeUnit.Seconds = (refl, refl, refl)
 ranges-unit TimeUnit.Minutes = (refl, refl, refl)
 ranges-unit TimeUnit.Hours = (refl, refl, refl)
 ranges-unit TimeUnit.Days = (refl, refl, refl)
+ranges-unit TimeUnit.Weeks = (refl, refl, refl)
 
 -- an argument is an identifier exactly where its root is 27
 pub data Identifies : CallArg → Option Text → Bool → Type 0 where
@@ -137,6 +138,7 @@ identifies (CallArg.WithinArg i) = go (i .unit)
     go TimeUnit.Minutes = no-name
     go TimeUnit.Hours = no-name
     go TimeUnit.Days = no-name
+    go TimeUnit.Weeks = no-name
 identifies (CallArg.TermArg (Term.Entity ty id)) = no-name
 identifies (CallArg.TermArg (Term.Integer n)) = no-name
 identifies (CallArg.TermArg (Term.Decimal t)) = no-name

@@ -12,7 +12,7 @@ use lib.ListN.{length, getD, set, length-set}
 use lib.Seq.{sets, length-sets, getD-set-same, getD-set-other}
 use borrow.Author.Tests.{le-leb}
 use Rattle.format.specs.Entry.{Text, Entry, entry, textEntry}
-use Rattle.format.specs.Ast.{Condition, Term, Call, CallArg, CallArgs, MacroParam, MacroDef}
+use Rattle.format.specs.Ast.{TimeUnit, Condition, Term, Call, CallArg, CallArgs, MacroParam, MacroDef}
 use Rattle.format.specs.Flat.{flatUnit, flatInterval, flatWithin, flatParams, lengthArgs, flatCondition, flatTerm, flatCall, flatArg, flatArgs, flatDef}
 use Rattle.definition.specs.Size.{size, callArgSize}
 use Rattle.definition.proofs.Size.{size-interval}
@@ -42,7 +42,7 @@ use Rattle.subst_places.specs.Parameters.{Tapes, tapes}
 use Rattle.subst_state.specs.declared.maps.Argument.{Argument}
 use Rattle.subst_state.specs.declared.maps.Found.{Found}
 use Rattle.subst_state.specs.declared.maps.Found.the-variants as found
-use Rattle.subst_places.proofs.TreesBound.{rootCondition, rootTerm, rootOf, between, ranges-condition, ranges-term, ranges-unit, entriesOf, ArgumentIs, FoundIs, nothing, argument, Bound}
+use Rattle.subst_places.proofs.TreesBound.{rootCondition, rootTerm, rootOf, between, ranges-condition, ranges-term, entriesOf, ArgumentIs, FoundIs, nothing, argument, Bound}
 
 -- ------------------------------------------------------------------ an argument, measured
 
@@ -196,11 +196,19 @@ module _ (t t′ : List ℕ) (k i : ℕ) (a : Argument) (e : k ≡ 6 * i) (b : k
 range : (low high root : ℕ) → Decides ((low ≤ root) × (root ≤ high)) (between low high root)
 range low high root = decides-and (decides-le low root) (decides-le root high)
 
+unit-small : (u : TimeUnit) → flatUnit u < 256
+unfolding flatUnit
+unit-small TimeUnit.Seconds = omega arith
+unit-small TimeUnit.Minutes = omega arith
+unit-small TimeUnit.Hours = omega arith
+unit-small TimeUnit.Days = omega arith
+unit-small TimeUnit.Weeks = omega arith
+
 root-small : (a : CallArg) → rootOf a < 256
 unfolding rootOf
 root-small (CallArg.ConditionArg c) = omega (arith, range 1 13 (rootCondition c) .holds (ranges-condition c .0) .1)
 root-small (CallArg.TermArg t) = omega (arith, range 20 33 (rootTerm t) .holds (ranges-term t .1) .1)
-root-small (CallArg.WithinArg i) = omega (arith, range 48 51 (flatUnit (i .unit)) .holds (ranges-unit (i .unit) .2) .1)
+root-small (CallArg.WithinArg i) = unit-small (i .unit)
 
 -- the rows from row i on are those of the arguments
 module _ (s : List ℕ) (l : Layout) where

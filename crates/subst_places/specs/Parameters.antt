@@ -2,7 +2,7 @@
 -- Assumes nothing.
 use Prim.Native.Nat.{ℕ, zero, suc, _+_}
 use mathlib.Core.List.{List}
-use mathlib.Core.Bool.{Bool, _&&_}
+use mathlib.Core.Bool.{Bool, _&&_, _||_}
 use lib.Dec.{leb}
 use lib.Seq.{slice}
 use Rattle.grammar.specs.Grammar as grammar
@@ -67,6 +67,10 @@ unboundAt m span name = refusedAt span (Unbound (m .«macro_name») name)
 abbrev pub hasRoot : Argument → ℕ → ℕ → Bool
 hasRoot arg low high = leb low (arg .root) && leb (arg .root) high
 
+-- an interval: 48 to 51, or 64
+abbrev pub isInterval : Argument → Bool
+isInterval arg = hasRoot arg 48 51 || hasRoot arg 64 64
+
 -- ------------------------------------------------------------------ a within
 
 -- where the left side of a Since ends: where its walk came, or, if that was refused, where a skip comes
@@ -79,7 +83,7 @@ module _ (def table : List ℕ) (m : SubstMaps) where
   paramWithinIn span name next =
       onFound (interval.Refused (unboundAt m span name))
       (λ arg.
-      pick (hasRoot arg 48 51) (interval.Given arg next)
+      pick (isInterval arg) (interval.Given arg next)
       (interval.Refused (refusedAt span (NotAnInterval (m .«macro_name») name))))
       (argFor def table m name)
 

@@ -1,6 +1,7 @@
 // The four places of a parameter, and of a binder's name: what a `?` or a `$` becomes there.
 use area::put_text;
 use grammar::codes::CONDITION;
+use grammar::codes::either;
 use messages::Reason;
 use messages::Refused;
 use messages::refuse;
@@ -33,7 +34,7 @@ use walk_state::writing::Walk;
 use walk_state::writing::without_message;
 ghost use mathlib.Core.Path.{_≡_};
 ghost use Rattle.walk_state.specs.Writing.{progress};
-ghost use Rattle.subst_places.specs.Parameters.{tapes, hasRoot, unboundAt, paramConditionIn, sigilRefIn, paramTermIn, paramWithinIn, withinIn, behindIn, sinceWithinIn, putWithinIn, paramSlotIn, binderSlotIn, binderIn, bindersIn};
+ghost use Rattle.subst_places.specs.Parameters.{tapes, hasRoot, isInterval, unboundAt, paramConditionIn, sigilRefIn, paramTermIn, paramWithinIn, withinIn, behindIn, sinceWithinIn, putWithinIn, paramSlotIn, binderSlotIn, binderIn, bindersIn};
 
 // Whether the root of an argument is of a code from `low` to `high`.
 fn has_root(arg: Argument, low: u8, high: u8) -> bool
@@ -43,6 +44,13 @@ fn has_root(arg: Argument, low: u8, high: u8) -> bool
         return false;
     }
     arg.root <= high
+}
+
+// Whether an argument is an interval: 48 to 51, or 64.
+fn is_interval(arg: Argument) -> bool
+    ensures { λ r. ⌜ r ≡ isInterval arg ⌝ }
+{
+    either(has_root(arg, 48, 51), has_root(arg, 64, 64))
 }
 
 fn unbound(m: SubstMaps, span: u64, name: Name) -> Refused
@@ -135,7 +143,7 @@ fn param_within(
     let Found::Argument(arg) = arg_for(def, args, m, name) else {
         return Interval::Refused(unbound(m, span, name));
     };
-    if has_root(arg, 48, 51) {
+    if is_interval(arg) {
         return Interval::Given(arg, next);
     }
     let macro_name = m.macro_name;

@@ -1,4 +1,4 @@
--- The four roots of document 01, and what an accepted slice holds.
+-- The four roots of document 01 and a lone term, and what an accepted slice holds.
 -- Assumes nothing.
 use Prim.Native.Nat.{ℕ, suc, _+_, _*_, _≤_, _<_}
 use mathlib.Core.Path.{_≡_, refl, ap, sym, _∙_, subst}
@@ -10,13 +10,14 @@ use lib.ListN.{length, getD}
 use Rattle.format.specs.Entry.{Entry, encode, textOf}
 use Rattle.format.specs.Ast.{MacroDef}
 use Rattle.format.specs.DeMorgan.{orWeight}
-use Rattle.format.specs.Limits.{nodeWeight, callWeight, deepCondition, deepCall, deepBody, deepBodies, fitsSizes, fitsDepths}
+use Rattle.format.specs.Limits.{nodeWeight, callWeight, deepCondition, deepTerm, deepCall, deepBody, deepBodies, fitsSizes, fitsDepths}
 use Rattle.format.specs.Macro.{tally}
 use Rattle.format.specs.Rewritten.{weighted}
 use Rattle.format.specs.Stands.{Stands}
-use Rattle.format.specs.Tape.{Reading, Root, conditionRoot, callRoot, definitionRoot, registryRoot, shortTexts, fewParams, fewParamsEach, small, accept, Bytes}
+use Rattle.format.specs.Tape.{Reading, Root, conditionRoot, termRoot, callRoot, definitionRoot, registryRoot, shortTexts, fewParams, fewParamsEach, small, accept, Bytes}
 use Rattle.format.proofs.Accepted.{Values64, InRange, accepted-on-tape}
 use Rattle.format.proofs.Builds.{Rooted, rooted-condition, rooted-call, rooted-definition, rooted-registry}
+use Rattle.format.proofs.LastYear.{lawful-term}
 use Rattle.format.proofs.Rewritten.{Rewrites}
 use Rattle.format.proofs.Spells.{s-condition-root, s-call, s-definition, s-registry-root}
 use Rattle.format.proofs.Stands.{stands-encoded}
@@ -34,7 +35,7 @@ use Rattle.tape.proofs.Passing.{shortIn}
 use Rattle.tape.proofs.Runs.{place, Run}
 use Rattle.format.proofs.Tests.{and-left, and-right}
 use Rattle.format.proofs.Weights.{or-calls, or-nodes}
-use Rattle.tape.proofs.Trees.{passes-condition, passes-call, passes-definition, passes-registry}
+use Rattle.tape.proofs.Trees.{passes-condition, passes-term, passes-call, passes-definition, passes-registry}
 
 -- the texts that are short by the table's marks are those that are short
 short-texts : (es : List Entry) → shortIn temporalWords 64 es ≡ shortTexts es
@@ -42,7 +43,7 @@ unfolding shortTexts
 short-texts [] = refl
 short-texts (e ∷ es) = rw (longest-marks (e .code), short-texts es)
 
--- ------------------------------------------------------------------ the four roots
+-- ------------------------------------------------------------------ the roots
 
 -- with the figures of the rewritten tape a root is built and taken as it was
 rooted-weighted : {A : Type 0} {root : Root A} {a : A} → Rooted root a → Rooted (weighted root) a
@@ -74,6 +75,23 @@ condition-root =
       passes = passes-condition;
       short = λ c h. short-entries (conditionRoot .flat c);
       limits = λ c. depth-limits (deepCondition (orWeight nodeWeight) c) true (ap (λ (w : ℕ → ℕ). deepCondition w c) (sym or-calls));
+    }
+
+pub term-root : RootOf termRoot sort.term
+unfolding weighted termRoot
+term-root =
+    record {
+      is-sort = omega arith;
+      is-limited = refl;
+      tree = λ x. x;
+      spelled = λ x. refl;
+      sound = lawful-term .spells;
+      rooted = λ t. rooted-weighted (lawful-term .rooted t);
+      deep = λ t w. deepTerm w t;
+      listed = λ t. true;
+      passes = passes-term;
+      short = λ t h. short-entries (termRoot .flat t);
+      limits = λ t. depth-limits (deepTerm (orWeight nodeWeight) t) true (ap (λ (w : ℕ → ℕ). deepTerm w t) (sym or-calls));
     }
 
 pub call-root : RootOf callRoot sort.call

@@ -86,6 +86,7 @@ passes-interval i = go (i .unit)
     go TimeUnit.Minutes = plain sort.interval (entry 49 (i .amount)) refl refl refl refl none
     go TimeUnit.Hours = plain sort.interval (entry 50 (i .amount)) refl refl refl refl none
     go TimeUnit.Days = plain sort.interval (entry 51 (i .amount)) refl refl refl refl none
+    go TimeUnit.Weeks = plain sort.interval (entry 64 (i .amount)) refl refl refl refl none
 
 pub passes-within : (w : WithinSpec) → Shallow (sort.within ∷ []) (flatWithin w ∷ [])
 unfolding decides flatWithin flatInterval flatUnit
@@ -97,6 +98,7 @@ passes-within (WithinSpec.Concrete i) = go (i .unit)
     go TimeUnit.Minutes = plain sort.within (entry 49 (i .amount)) refl refl refl refl none
     go TimeUnit.Hours = plain sort.within (entry 50 (i .amount)) refl refl refl refl none
     go TimeUnit.Days = plain sort.within (entry 51 (i .amount)) refl refl refl refl none
+    go TimeUnit.Weeks = plain sort.within (entry 64 (i .amount)) refl refl refl refl none
 
 passes-sigil : (g : Sigil) (n : Text) → Shallow (sort.sigil ∷ []) (textEntry (flatSigil g) n ∷ [])
 unfolding decides flatSigil

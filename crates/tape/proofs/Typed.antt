@@ -342,6 +342,12 @@ withins =
     52 by (λ v t ok h xs. (WithinSpec.ParamRef t, spelt 52 v t h [] xs)) &
     end
 
+weekWithin : Each (Built sort.within) 64 1
+unfolding cases
+weekWithin =
+    64 by (λ v t ok h xs. (WithinSpec.Concrete (record { amount = v; unit = TimeUnit.Weeks }), spanned 64 v t h [] xs)) &
+    end
+
 intervals : Each (Built sort.interval) 48 4
 unfolding cases
 intervals =
@@ -349,6 +355,12 @@ intervals =
     49 by (λ v t ok h xs. (record { amount = v; unit = TimeUnit.Minutes }, spanned 49 v t h [] xs)) &
     50 by (λ v t ok h xs. (record { amount = v; unit = TimeUnit.Hours }, spanned 50 v t h [] xs)) &
     51 by (λ v t ok h xs. (record { amount = v; unit = TimeUnit.Days }, spanned 51 v t h [] xs)) &
+    end
+
+weeks : Each (Built sort.interval) 64 1
+unfolding cases
+weeks =
+    64 by (λ v t ok h xs. (record { amount = v; unit = TimeUnit.Weeks }, spanned 64 v t h [] xs)) &
     end
 
 operators : Each (Built sort.operator) 53 1
@@ -461,8 +473,8 @@ all-cases : Each (λ n. Ranged (getD temporalWords n 0) n) 0 32
 unfolding temporalWords
 all-cases =
     0 by (end, end) & 1 by (conditions, end) & 2 by (termsOf, end) & 3 by (aggregates, end) &
-    4 by (text, end) & 5 by (span, end) & 6 by (slots, end) & 7 by (types, end) & 8 by (withins, end) &
-    9 by (intervals, end) & 10 by (operators, end) & 11 by (calls, end) & 12 by (arguments, end) &
+    4 by (text, end) & 5 by (span, end) & 6 by (slots, end) & 7 by (types, end) & 8 by (withins, weekWithin) &
+    9 by (intervals, weeks) & 10 by (operators, end) & 11 by (calls, end) & 12 by (arguments, end) &
     13 by (sigils, end) & 14 by (definitions, end) & 15 by (bodies, end) & 16 by (fieldOf, end) &
     17 by (paramOf, end) & 18 by (binderOf, end) & 19 by (textList, end) & 20 by (fieldList, end) &
     21 by (binderList, end) & 22 by (argList, end) & 23 by (paramList, end) & 24 by (defList, end) &

@@ -44,9 +44,14 @@ pub fn bytes(s: &[u8], at: usize) -> &[u8] {
     part_of(s, past(s, at, 4), n)
 }
 
+// The place behind a tape that only some operations have.
+fn past_tape(s: &[u8], at: usize, has: bool) -> usize {
+    if has { past_bytes(s, at) } else { at }
+}
+
 // 64 kinds for each operation, from 1 on: one for each number. Anything else is of kind 1.
 fn kind_of(operation: u32, number: u64) -> usize {
-    if 4 < operation {
+    if 15 < operation {
         return 1;
     }
     if 63 < number {
@@ -57,12 +62,14 @@ fn kind_of(operation: u32, number: u64) -> usize {
 
 pub fn read_vector(s: &[u8], at: usize) -> Vector {
     let limit = read_size(s, past(s, at, 1));
-    let first = past(s, at, 5);
+    let tapes = read_size(s, past(s, at, 11)) % 256;
+    let first = past(s, at, 12);
     let second = past_bytes(s, first);
-    let sizes = past_bytes(s, second);
+    let sizes = past_tape(s, second, 1 < tapes);
     let numbers = past(s, sizes, 12);
-    let result = past(s, numbers, 40);
+    let result = past(s, numbers, 56);
     let message = past_bytes(s, result);
+    let counts = past_bytes(s, message);
     Vector {
         kind: kind_of(read_size(s, at) % 256, read_value(s, numbers)),
         limit,
@@ -72,6 +79,6 @@ pub fn read_vector(s: &[u8], at: usize) -> Vector {
         numbers,
         result,
         message,
-        next: past_bytes(s, message),
+        next: past_bytes(s, past_bytes(s, counts)),
     }
 }

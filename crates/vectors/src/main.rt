@@ -17,6 +17,11 @@ fn room() -> [u8; 524288] {
     [0; 524288]
 }
 
+// A count for each kind.
+fn counts() -> [u64; 1024] {
+    [0; 1024]
+}
+
 fn main() {
     let mut list = room();
     let n = io::read_full(STDIN_FILENO, &mut list);
@@ -24,8 +29,8 @@ fn main() {
 }
 
 fn replay(s: &[u8]) {
-    let mut all = [0u64; 320];
-    let mut good = [0u64; 320];
+    let mut all = counts();
+    let mut good = counts();
     let mut at = start(s);
     let vectors = read_size(s, 8);
     for _ in 0..vectors {

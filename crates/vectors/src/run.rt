@@ -61,6 +61,7 @@ fn run(s: &[u8], v: Vector, result: &mut [u8], work: &mut [u8], message: &mut [u
         1 => check_body::check(first, message),
         2 => registry::build(first, message),
         3 => substitution::substitute(first, second, v.limit, result, work, message),
+        10 => older::older(first, result),
         _ => expansion::expand(first, second, v.limit, result, work, message),
     }
 }
@@ -97,7 +98,7 @@ fn lend_work(s: &[u8], v: Vector, message: &mut [u8]) -> bool {
     lend_result(s, v, &mut work[0..size], message)
 }
 
-// Check and registry are lent a result and a work buffer of no bytes.
+// An operation is lent no bytes of a buffer that it has not.
 pub fn comes_out(s: &[u8], v: Vector) -> bool {
     let size = read_size(part_of(s, v.sizes, 12), 8) as usize;
     if 4096 < size {

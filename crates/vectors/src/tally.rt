@@ -1,8 +1,8 @@
 // Vectors counted by their kind, and all of them as kind 0.
 use libc::STDOUT_FILENO;
 
-fn one_more(counts: &mut [u64; 320], kind: usize) {
-    if kind < 320 {
+fn one_more(counts: &mut [u64; 1024], kind: usize) {
+    if kind < 1024 {
         let n = counts[kind];
         if n < 1000000 {
             counts[kind] = n + 1;
@@ -10,13 +10,13 @@ fn one_more(counts: &mut [u64; 320], kind: usize) {
     }
 }
 
-pub fn count(counts: &mut [u64; 320], kind: usize) {
+pub fn count(counts: &mut [u64; 1024], kind: usize) {
     one_more(counts, 0);
     one_more(counts, kind);
 }
 
-fn counted(counts: &[u64; 320], kind: usize) -> u64 {
-    if kind < 320 { counts[kind] } else { 0 }
+fn counted(counts: &[u64; 1024], kind: usize) -> u64 {
+    if kind < 1024 { counts[kind] } else { 0 }
 }
 
 fn print_operation(operation: usize) -> bool {
@@ -25,6 +25,7 @@ fn print_operation(operation: usize) -> bool {
         2 => io::write_all(STDOUT_FILENO, b"registry "),
         3 => io::write_all(STDOUT_FILENO, b"substitute "),
         4 => io::write_all(STDOUT_FILENO, b"expand "),
+        10 => io::write_all(STDOUT_FILENO, b"older "),
         _ => io::write_all(STDOUT_FILENO, b"unknown "),
     }
 }
@@ -44,8 +45,8 @@ fn print_kind(kind: usize, all: u64, good: u64) {
 }
 
 // A line for each kind that the list has, and the total.
-pub fn print(all: &[u64; 320], good: &[u64; 320]) {
-    for kind in 1..320usize {
+pub fn print(all: &[u64; 1024], good: &[u64; 1024]) {
+    for kind in 1..1024usize {
         let n = counted(all, kind);
         if n != 0 {
             print_kind(kind, n, counted(good, kind));

@@ -22,4 +22,5 @@ read-within-spec =
     (λ c. rw (← c .before .before .before .before .before .entry .ensures, c .before .before .before .code .given .1, c .match2 .keys3))
     (λ c. rw (← c .before .before .before .before .before .entry .ensures, c .before .before .before .code .given .1, c .match2 .keys4))
     (λ c. rw (← c .before .before .before .before .before .entry .ensures, c .before .before .before .code .given .1, c .before .named .ensures, c .match2 .keys5))
+    (λ c. rw (← c .before .before .before .before .before .entry .ensures, c .before .before .before .code .given .1, c .match2 .keys6))
     (λ c. rw (← c .before .before .before .before .before .before .entry .ensures, c .before .before .before .before .code .given .1, c .malformed2 .ensures, no-row (Unit {0}) (withinRows (named (c .before .before .before .before .before .before .before .before .args .p) (c .before .before .before .before .code .given .0 .1 .0)) (c .before .before .before .before .code .given .0 .1 .1 .0)) noWithin _ (c .before .match2 .rest))))

@@ -16,6 +16,6 @@ param-within-spec =
     (λ c κs. search needs)
     (λ c. rw (← c .before .before .before .arg-for .ensures, c .before .enum-told .given .1, ← c .unbound .ensures))
     (λ c κs. search needs)
-    (λ c. rw (← c .before .before .before .before .before .arg-for .ensures, c .before .before .before .arg .given .1, ← c .before .has-root .ensures, c .if1 .taken))
+    (λ c. rw (← c .before .before .before .before .before .arg-for .ensures, c .before .before .before .arg .given .1, ← c .before .is-interval .ensures, c .if1 .taken))
     (λ c κs. search needs)
-    (λ c. rw (← c .before .before .before .before .before .before .before .arg-for .ensures, c .before .before .before .before .before .arg .given .1, ← c .before .before .before .has-root .ensures, c .before .before .if1 .left, ← c .refuse .ensures)))
+    (λ c. rw (← c .before .before .before .before .before .before .before .arg-for .ensures, c .before .before .before .before .before .arg .given .1, ← c .before .before .before .is-interval .ensures, c .before .before .if1 .left, ← c .refuse .ensures)))

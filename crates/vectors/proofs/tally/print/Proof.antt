@@ -7,10 +7,10 @@ use Rattle.vectors.proofs.tally.print.Statement.{statement}
 use Rattle.vectors.proofs.tally.print.Tie as tie
 
 abbrev Inv-loop : tie.InvT-loop
-Inv-loop all good kind₀ kind = kind ≤ 320
+Inv-loop all good kind₀ kind = kind ≤ 1024
 
 abbrev μ-loop : tie.MeasureT-loop
-μ-loop all good kind₀ kind = 320 - kind
+μ-loop all good kind₀ kind = 1024 - kind
 
 pub print-spec : {M : Type 1} → statement M
 print-spec =

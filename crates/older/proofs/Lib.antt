@@ -1,0 +1,3 @@
+-- Laws of the operation.
+mod Roots
+mod Operation
