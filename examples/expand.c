@@ -119,7 +119,7 @@ int main(void)
     static uint8_t result[NEUKOLJA_RESULT_SIZE], work[NEUKOLJA_WORK_SIZE], message[NEUKOLJA_MESSAGE_SIZE];
     uint64_t answer[NEUKOLJA_ANSWER_LENGTH];
 
-    neukolja_expand(registry, make_registry(registry), rule, make_rule(rule), 100,
+    neukolja_expand(registry, make_registry(registry), rule, make_rule(rule), 100, 0,
                     result, sizeof result, work, sizeof work, message, sizeof message, answer);
 
     printf("number %" PRIu64 ", span %" PRIu64 "..%" PRIu64 ", charged %" PRIu64 "\n",

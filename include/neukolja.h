@@ -11,8 +11,8 @@
  * deeper at each, and so do sizes, charges and messages. No result holds a 2.
  *
  * Stack: the walks recurse as deep as tapes nest. Measured at the deepest inputs on x86-64 (`bench stack`): neukolja_check 70,847
- * bytes, neukolja_registry 14,223, neukolja_substitute 146,303, neukolja_expand 299,007. A linker script or a thread must provide
- * it, with what the caller itself needs and some room on top: nothing checks it while a function runs.
+ * bytes, neukolja_registry 14,223, neukolja_substitute 146,415, neukolja_expand 299,119, neukolja_older 22,447. A linker script or
+ * a thread must provide it, with what the caller itself needs and some room on top: nothing checks it while a function runs.
  *
  * A function keeps nothing between calls, so several threads may call it at once, each with buffers of its own. What a call
  * writes to must not overlap anything else that it is given. No pointer may be null, not even with the length 0.
@@ -92,24 +92,27 @@ void neukolja_registry(const uint8_t *registry, size_t registry_length,
                        uint64_t answer[5]);
 
 /* One definition applied to one call, a tape whose root is 54; the names are not compared. At most `limit` nodes are charged.
+ * `file` is the number of the call's file, which the names of `$` binders end in; with 0 they have none (see neukolja_expand).
  * result:  the tape of a condition or a term, then zeros to the end; all zeros on a refusal.
  * work:    all zeros afterwards.
  * message: the message of a refusal, then zeros to the end; all zeros on success. */
 void neukolja_substitute(const uint8_t *definition, size_t definition_length,
                          const uint8_t *call, size_t call_length,
-                         uint32_t limit,
+                         uint32_t limit, uint16_t file,
                          uint8_t *result, size_t result_length,
                          uint8_t *work, size_t work_length,
                          uint8_t *message, size_t message_length,
                          uint64_t answer[5]);
 
 /* A condition with its macro calls expanded by the definitions of a registry. At most `limit` nodes are charged.
+ * `file` is the number of the rule's file. A `$` binder t of a call at byte 7 becomes t$7 in file 0 and t$7#3 in file 3, so that
+ * conditions of several files may be joined: give each file a number of its own. A name has at most 75 bytes, or 81.
  * result:  the tape of the condition, then zeros to the end; all zeros on a refusal.
  * work:    all zeros afterwards.
  * message: the message of a refusal, then zeros to the end; all zeros on success. */
 void neukolja_expand(const uint8_t *registry, size_t registry_length,
                      const uint8_t *condition, size_t condition_length,
-                     uint32_t limit,
+                     uint32_t limit, uint16_t file,
                      uint8_t *result, size_t result_length,
                      uint8_t *work, size_t work_length,
                      uint8_t *message, size_t message_length,

@@ -30,13 +30,13 @@ mod functions {
         );
         #[cfg(archive_has = "substitute")]
         fn neukolja_substitute(
-            definition: *const u8, definition_len: usize, call: *const u8, call_len: usize, limit: u32,
+            definition: *const u8, definition_len: usize, call: *const u8, call_len: usize, limit: u32, file: u16,
             result: *mut u8, result_len: usize, work: *mut u8, work_len: usize, message: *mut u8, message_len: usize,
             answer: *mut [u64; 5],
         );
         #[cfg(archive_has = "expand")]
         fn neukolja_expand(
-            registry: *const u8, registry_len: usize, condition: *const u8, condition_len: usize, limit: u32,
+            registry: *const u8, registry_len: usize, condition: *const u8, condition_len: usize, limit: u32, file: u16,
             result: *mut u8, result_len: usize, work: *mut u8, work_len: usize, message: *mut u8, message_len: usize,
             answer: *mut [u64; 5],
         );
@@ -75,12 +75,12 @@ mod functions {
                     Operation::Registry => neukolja_registry(a.as_ptr(), a.len(), m.as_mut_ptr(), m.len(), answer),
                     #[cfg(archive_has = "substitute")]
                     Operation::Substitute => neukolja_substitute(
-                        a.as_ptr(), a.len(), b.as_ptr(), b.len(), limit,
+                        a.as_ptr(), a.len(), b.as_ptr(), b.len(), limit, case.file,
                         r.as_mut_ptr(), r.len(), w.as_mut_ptr(), w.len(), m.as_mut_ptr(), m.len(), answer,
                     ),
                     #[cfg(archive_has = "expand")]
                     Operation::Expand => neukolja_expand(
-                        a.as_ptr(), a.len(), b.as_ptr(), b.len(), limit,
+                        a.as_ptr(), a.len(), b.as_ptr(), b.len(), limit, case.file,
                         r.as_mut_ptr(), r.len(), w.as_mut_ptr(), w.len(), m.as_mut_ptr(), m.len(), answer,
                     ),
                     #[cfg(archive_has = "older")]

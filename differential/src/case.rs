@@ -71,15 +71,17 @@ pub struct Case {
     pub operation: Operation,
     /// 0 where nothing is charged.
     pub limit: u32,
+    /// The number of the file that the call or the condition is from; 0 where no name is generated.
+    pub file: u16,
     pub tapes: Vec<Vec<u8>>,
     /// Sizes of the result, work and message buffers; 0 for one that the operation has not.
     pub sizes: [usize; 3],
 }
 
 impl Case {
-    /// With buffers of the least sizes.
+    /// From file 0, with buffers of the least sizes.
     pub fn new(operation: Operation, limit: u32, tapes: Vec<Vec<u8>>) -> Case {
-        Case { operation, limit, tapes, sizes: operation.buffers() }
+        Case { operation, limit, file: 0, tapes, sizes: operation.buffers() }
     }
 
     /// The bytes that this case takes in a list of vectors, its answer aside.

@@ -58,7 +58,10 @@ fn hear_upstream(case: &Case, answer: &Answer, notes: &Notes) -> Result<Witness,
     if !case.operation.charges() {
         same("the trees with Or", &run(case, &given, Reach::limit(0)), &run(case, &trees, Reach::limit(0)))?;
     }
-    let run = |reach: Reach| run(case, &trees, reach);
+    let run = |reach: Reach| {
+        let others: Vec<Node> = trees.iter().map(upstream::with_other_starts).collect();
+        upstream::lengthened(run(case, &trees, reach), || run(case, &others, reach), case.file)
+    };
     let whole = Reach::limit(case.limit as usize);
     match &notes.too_large {
         None => {
@@ -73,7 +76,9 @@ fn hear_upstream(case: &Case, answer: &Answer, notes: &Notes) -> Result<Witness,
         Some(TooLarge::Outcome { definition, call, outcome, charged_before }) => {
             let left = u64::from(case.limit) - charged_before;
             let [definition, call] = [definition, call].map(tape::weeks_as_days);
-            let mut substituted = upstream::substitute(&definition, &call, Reach::limit(left as usize));
+            let substitute = |call: &Node| upstream::substitute(&definition, call, Reach::limit(left as usize));
+            let other = || substitute(&upstream::with_other_starts(&call));
+            let mut substituted = upstream::lengthened(substitute(&call), other, case.file);
             substituted.charged += charged_before;
             made(&substituted, answer, outcome)?;
             let halted = run(Reach { charges: notes.charges, ..whole });

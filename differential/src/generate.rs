@@ -22,18 +22,27 @@ pub fn operation(seed: u64, index: u64) -> Operation {
 pub fn case(seed: u64, index: u64) -> Case {
     let random = &mut Random::of_case(seed, index);
     let operation = draw(random);
+    let file = if operation.charges() { file(random) } else { 0 };
     let input = match random.weighted(&[76, 11, 10, 3]) {
         0 => input(random, operation),
         1 => at_a_limit(random, operation),
-        2 => result_at_a_limit(random, operation),
+        2 => result_at_a_limit(random, operation, file),
         _ => ill_formed(random, operation),
     };
-    let mut case = on_tapes(random, operation, &input);
+    let mut case = on_tapes(random, operation, file, &input);
     if random.chance(13) {
         spoil(random, &mut case);
     }
     vary_buffers(random, &mut case);
     case
+}
+
+fn file(random: &mut Random) -> u16 {
+    match random.weighted(&[40, 40, 20]) {
+        0 => 0,
+        1 => *random.pick(&[1, 9, 10, 99, 100, 1_000, 65_535]),
+        _ => random.number() as u16,
+    }
 }
 
 /// The trees of a case: definition or registry, and call or condition.
@@ -263,14 +272,14 @@ fn many_calls(random: &mut Random, input: &mut Input, operation: Operation) {
 // ------------------------------------------------------------------ results at a limit
 
 /// A substitution whose result, or an expansion of which a 54, an outcome or the whole, comes to rest around a limit.
-fn result_at_a_limit(random: &mut Random, operation: Operation) -> Input {
+fn result_at_a_limit(random: &mut Random, operation: Operation, file: u16) -> Input {
     let figure = *random.pick(&FIGURES);
     match operation {
         Operation::Check | Operation::Registry | Operation::Older => at_a_limit(random, operation),
         Operation::Substitute => {
             let mut input = multiplying(random, figure);
             let call = input.second.clone().expect("a call");
-            let mut walk = Walk::new(u64::from(u32::MAX), UNBOUNDED);
+            let mut walk = Walk::new(u64::from(u32::MAX), file, UNBOUNDED);
             if let Ok(result) = walk.substitute_whole(&tape::withdrawn(&input.first), &tape::withdrawn(&call))
                 && let Some(more) = brim::missing(random, figure, &tape::measure(&result))
             {
@@ -281,7 +290,7 @@ fn result_at_a_limit(random: &mut Random, operation: Operation) -> Input {
             }
             input
         }
-        Operation::Expand => expansion_at_a_limit(random, figure),
+        Operation::Expand => expansion_at_a_limit(random, figure, file),
     }
 }
 
@@ -329,11 +338,11 @@ fn pasting(g: &mut Trees, as_term: bool, pastes: usize) -> Node {
 
 /// The condition is one call, so that the last measures taken are those of its 54, its outcome and the whole. One of
 /// them is brought to a limit.
-fn expansion_at_a_limit(random: &mut Random, figure: Figure) -> Input {
+fn expansion_at_a_limit(random: &mut Random, figure: Figure, file: u16) -> Input {
     let (mut registry, call) = outer_and_inner(random, figure);
     let is_value = registry.children[0].children[2].code == 63;
     let mut condition = as_condition(call, is_value);
-    let mut walk = Walk::new(u64::from(u32::MAX), UNBOUNDED);
+    let mut walk = Walk::new(u64::from(u32::MAX), file, UNBOUNDED);
     if walk.expand_whole(&tape::withdrawn(&registry), &tape::withdrawn(&condition)).is_ok() {
         let [.., (_, of_call), (_, of_outcome), (_, of_whole)] = walk.measured[..] else {
             unreachable!("a call was expanded")
@@ -410,9 +419,10 @@ fn unused_argument(condition: &mut Node, is_value: bool) -> &mut Node {
 
 // ------------------------------------------------------------------ from trees to a case
 
-fn on_tapes(random: &mut Random, operation: Operation, input: &Input) -> Case {
+fn on_tapes(random: &mut Random, operation: Operation, file: u16, input: &Input) -> Case {
     let tapes = [Some(&input.first), input.second.as_ref()].into_iter().flatten().map(tape::encode).collect();
-    let mut case = Case::new(operation, if operation.charges() { u32::MAX } else { 0 }, tapes);
+    let limit_if_any = if operation.charges() { u32::MAX } else { 0 };
+    let mut case = Case { file, ..Case::new(operation, limit_if_any, tapes) };
     if operation.charges() && random.chance(55) {
         case.limit = limit(random, model::answer(&case).0.charged as usize) as u32;
     }

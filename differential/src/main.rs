@@ -137,7 +137,7 @@ fn record(path: &str, seed: u64) -> Result<bool, String> {
 
 fn show(seed: u64, index: u64) -> bool {
     let case = generate::case(seed, index);
-    println!("{}, limit {}", case.operation.name(), case.limit);
+    println!("{}, limit {}, file {}", case.operation.name(), case.limit, case.file);
     println!("result, work and message buffer: {:?}", case.sizes);
     for (bytes, root) in case.tapes.iter().zip(case.operation.roots()) {
         match tape::accept(bytes, *root) {

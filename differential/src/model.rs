@@ -70,7 +70,7 @@ pub enum Measured {
 // ------------------------------------------------------------------ the four operations
 
 pub fn answer(case: &Case) -> (Answer, Notes) {
-    let mut walk = Walk::new(u64::from(case.limit), LARGEST);
+    let mut walk = Walk::new(u64::from(case.limit), case.file, LARGEST);
     let mut notes = Notes::default();
     let outcome = operate(case, &mut walk, &mut notes);
     notes.charges = walk.charges;
@@ -100,7 +100,7 @@ pub fn answer(case: &Case) -> (Answer, Notes) {
 
 /// The number that would be answered if nothing that is made could be too large.
 pub fn without_limit(case: &Case) -> u64 {
-    let mut walk = Walk::new(u64::from(case.limit), UNBOUNDED);
+    let mut walk = Walk::new(u64::from(case.limit), case.file, UNBOUNDED);
     operate(case, &mut walk, &mut Notes::default()).map_or_else(|refusal| refusal.number, |_| 0)
 }
 
@@ -244,6 +244,7 @@ fn check_below(node: &Node, around: u64, declared: &[&[u8]]) -> Result<(), Refus
 /// The budget, the figures that hold, and what came to pass.
 pub struct Walk {
     limit: u64,
+    file: u16,
     largest: Largest,
     pub charged: u64,
     pub charges: usize,
@@ -254,10 +255,11 @@ pub struct Walk {
     over: Option<Over>,
 }
 
-/// A definition and a call of it.
+/// A definition and a call of it, in a file.
 struct Substitution<'a> {
     definition: &'a Node,
     call: &'a Node,
+    file: u16,
 }
 
 impl Substitution<'_> {
@@ -279,15 +281,21 @@ impl Substitution<'_> {
     }
 
     fn generated(&self, code: u8, binder: &[u8]) -> Node {
-        let start = tape::span_start(self.span()).to_string();
-        Node::with_text(code, &[binder, b"$", start.as_bytes()].concat())
+        Node::with_text(code, &generated_name(binder, tape::span_start(self.span()), self.file))
     }
 }
 
+/// The name that a `$` binder becomes: the file number stands in it unless it is 0.
+pub fn generated_name(binder: &[u8], start: u64, file: u16) -> Vec<u8> {
+    let end = if file == 0 { format!("${start}") } else { format!("${start}#{file}") };
+    [binder, end.as_bytes()].concat()
+}
+
 impl Walk {
-    pub fn new(limit: u64, largest: Largest) -> Walk {
+    pub fn new(limit: u64, file: u16, largest: Largest) -> Walk {
         Walk {
             limit,
+            file,
             largest,
             charged: 0,
             charges: 0,
@@ -337,7 +345,7 @@ impl Walk {
     fn substitute(&mut self, definition: &Node, call: &Node) -> Result<Node, Refusal> {
         let body = &body(definition).children[0];
         self.charge(60, tape::size(body), call.value)?;
-        self.substitute_below(body, call.value, &Substitution { definition, call })
+        self.substitute_below(body, call.value, &Substitution { definition, call, file: self.file })
     }
 
     fn substitute_below(&mut self, node: &Node, around: u64, s: &Substitution) -> Result<Node, Refusal> {

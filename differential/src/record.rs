@@ -55,8 +55,13 @@ enum Shows {
     Place(Place),
     /// What a tree does not show.
     Event(&'static str),
-    /// A number with so many digits behind a `$`.
+    /// A name that looks generated, with so many digits behind its `$` and so many behind its `#`.
     Digits(usize),
+    FileDigits(usize),
+    /// The longest generated name, by whether it has a file number.
+    LongestName(bool),
+    /// 3 for a name's length: there is none for file 0.
+    LongerNames,
     /// So many 54s on a path, on a tape of a success.
     Calls(usize),
     /// So many charges in a success.
@@ -192,7 +197,7 @@ fn shows(case: &Case, answer: &Answer, notes: &Notes) -> Vec<Shows> {
     }
     if let Some(result) = &notes.result {
         result.visit(&mut |node| all.push(Shows::ResultCode(node.code)));
-        all.extend(generated_digits(result).map(Shows::Digits));
+        all.extend(generated(result, case.file));
         all.extend(characters_of(result).into_iter().map(|n| Shows::Character("result", n)));
         if answer.charged > 0 && answer.charged == u64::from(case.limit) {
             all.push(Shows::WholeBudget);
@@ -238,6 +243,9 @@ fn of_refusals(case: &Case, answer: &Answer, notes: &Notes) -> Vec<Shows> {
         all.push(Shows::Names { names, condition: tapes[1] });
     }
     all.push(Shows::Tapes { short: number == 1, tapes });
+    if notes.too_large.is_some() && case.file > 0 && model::answer(&Case { file: 0, ..case.clone() }).0.number == 0 {
+        all.push(Shows::LongerNames);
+    }
     if notes.too_large.is_some() {
         all.push(Shows::Made { otherwise_success: model::without_limit(case) == 0 });
     } else if number > 3 && answer.charged > LARGEST.entries as u64 {
@@ -306,15 +314,20 @@ fn characters_of(tree: &Node) -> BTreeSet<usize> {
     all
 }
 
-/// How many digits stand behind the `$` of names that look generated.
-fn generated_digits(result: &Node) -> impl Iterator<Item = usize> {
+/// What names that look generated show.
+fn generated(result: &Node, file: u16) -> BTreeSet<Shows> {
     let mut all = BTreeSet::new();
+    let end = if file == 0 { String::new() } else { format!("#{file}") };
     result.visit(&mut |node| {
-        let digits = node.text.iter().rev().take_while(|b| b.is_ascii_digit()).count();
-        let before = node.text.len() - digits;
-        if matches!(node.code, 27 | 43) && digits > 0 && before > 0 && node.text[before - 1] == b'$' {
-            all.insert(digits);
+        let Some(name) = node.text.strip_suffix(end.as_bytes()) else { return };
+        let digits = name.iter().rev().take_while(|b| b.is_ascii_digit()).count();
+        if matches!(node.code, 27 | 43) && digits > 0 && name[..name.len() - digits].ends_with(b"$") {
+            all.insert(Shows::Digits(digits));
+            all.insert(Shows::FileDigits(end.len().saturating_sub(1)));
+            if node.text.len() == if file == 0 { 75 } else { 81 } {
+                all.insert(Shows::LongestName(file > 0));
+            }
         }
     });
-    all.into_iter()
+    all
 }

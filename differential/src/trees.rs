@@ -76,7 +76,8 @@ pub const MOST_DEFINITIONS: usize = (LARGEST.entries - 1) / LEAST_DEFINITION;
 const MOST_WEEKS: i64 = i64::MAX / 7;
 
 const NAMES: [&str; 14] = ["a", "b", "c", "d", "s", "t", "x", "y", "z", "w", "v", "f", "g", "h"];
-const ODD_NAMES: [&str; 10] = ["", " ", "`", "?x", "$t", "x y", "in", "a.b.c", "~~~~", "0"];
+const ODD_NAMES: [&str; 14] =
+    ["", " ", "`", "?x", "$t", "x y", "in", "a.b.c", "~~~~", "0", "t$7", "t$7#1", "#9", "$1#"];
 /// Names whose order by bytes is not that of an alphabet, nor that of UTF-16: there `\u{10000}` is before `\u{E000}`.
 const WIDE_NAMES: [&str; 12] =
     ["Küche", "Séjour", "é", "e\u{301}", "É", "ä", "ß", "日本", "€", "\u{E000}", "\u{FFFD}", "\u{10000}"];
@@ -106,7 +107,7 @@ impl Trees<'_> {
     pub fn span(&mut self) -> u64 {
         match self.random.weighted(&[25, 30, 30, 12, 3]) {
             0 => 0,
-            1 => *self.random.pick(&[tape::span(7, 9), tape::span(1, 2), tape::span(3, 4), tape::span(9, 7)]),
+            1 => *self.random.pick(&[tape::span(7, 9), tape::span(1, 2), tape::span(9, 7), tape::span(10, 9)]),
             2 => tape::span(self.random.below(1000) as u32, self.random.below(1000) as u32),
             3 => self.random.number(),
             _ => *self.random.pick(&[u64::MAX, 0xFFFF_FFFF, u64::MAX << 32, tape::span(1_000_000_000, 1)]),

@@ -60,6 +60,36 @@ pub fn expand(definitions: &Node, condition: &Node, reach: Reach) -> Run {
     ran(adapter::expand(&macro_defs(definitions), tree, reach), |c| condition_node(&c))
 }
 
+// ------------------------------------------------------------------ names of other files
+
+/// The tree with another start for every 54, so that a run on it gives every generated name another number.
+pub fn with_other_starts(node: &Node) -> Node {
+    let value = if node.code == 54 { node.value ^ 1 } else { node.value };
+    let children = node.children.iter().map(with_other_starts).collect();
+    Node { text: node.text.clone(), ..Node::new(node.code, value, children) }
+}
+
+/// Upstream knows no file numbers. Above 0 its generated names get theirs: they are those that differ in a run on trees with
+/// other starts.
+pub fn lengthened(run: Run, other: impl FnOnce() -> Run, file: u16) -> Run {
+    match run.end {
+        End::Tree(tree) if file > 0 => {
+            let End::Tree(other) = other().end else { unreachable!("a start decides nothing but names") };
+            Run { end: End::Tree(lengthen(&tree, &other, file)), ..run }
+        }
+        _ => run,
+    }
+}
+
+fn lengthen(node: &Node, other: &Node, file: u16) -> Node {
+    if matches!(node.code, 27 | 43) && node.text != other.text {
+        let end = format!("#{file}");
+        return Node::with_text(node.code, &[&node.text, end.as_bytes()].concat());
+    }
+    let children = node.children.iter().zip(&other.children).map(|(c, o)| lengthen(c, o, file)).collect();
+    Node { text: node.text.clone(), ..Node::new(node.code, node.value, children) }
+}
+
 fn plain(result: Result<(), Ended>) -> Run {
     Run {
         end: match result {

@@ -12,7 +12,8 @@ pub fn write(vectors: &[(Case, Answer)]) -> Vec<u8> {
     for (case, answer) in vectors {
         out.push(case.operation.number());
         put_u32(&mut out, case.limit as usize);
-        out.extend([0; 6]);
+        out.extend_from_slice(&case.file.to_le_bytes());
+        out.extend([0; 4]);
         out.push(case.tapes.len() as u8);
         case.tapes.iter().for_each(|tape| put_bytes(&mut out, tape));
         case.sizes.iter().for_each(|n| put_u32(&mut out, *n));
@@ -96,7 +97,8 @@ impl<'a> Reader<'a> {
 
     fn vector(&mut self, ours: bool) -> Result<Expected, String> {
         let (operation, limit) = (self.operation()?, self.u32()?);
-        self.zeros(6)?;
+        let file = u16::from_le_bytes(self.take(2)?.try_into().expect("2 bytes"));
+        self.zeros(4)?;
         let count = self.take(1)?[0];
         let tapes = (0..count).map(|_| self.bytes()).collect::<Result<_, _>>()?;
         let sizes = [self.u32()? as usize, self.u32()? as usize, self.u32()? as usize];
@@ -109,6 +111,6 @@ impl<'a> Reader<'a> {
         if ours {
             self.zeros(8)?;
         }
-        Ok(Expected { case: Case { operation, limit, tapes, sizes }, numbers, result, message })
+        Ok(Expected { case: Case { operation, limit, file, tapes, sizes }, numbers, result, message })
     }
 }

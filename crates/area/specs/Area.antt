@@ -12,7 +12,6 @@ use Rattle.format.specs.Entry.{Text, Entry, le, textOf}
 use Rattle.format.specs.Limits.{fitsSizes}
 use Rattle.format.specs.Tape.{fromLe}
 use Rattle.format.specs.Stands.{part, Stands}
-use Rattle.definition.specs.Text.{utf8, decimal}
 use Rattle.buffer.specs.Buffer.{zeroed, Kept}
 use Rattle.area.specs.declared.Writer.{Writer}
 
@@ -86,10 +85,6 @@ putIn code value = appendIn (code ∷ []) (le 8 value) []
 
 unfoldable pub putTextIn : ℕ → Text → Area → Area
 putTextIn code text = appendIn (code ∷ []) (le 8 (length text)) text
-
--- the text of a generated name: the name, `$` and a number
-unfoldable pub generated : Text → ℕ → Text
-generated name start = name ++ (utf8 "$" ++ decimal start)
 
 -- ------------------------------------------------------------------ what an area holds
 

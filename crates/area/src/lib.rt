@@ -5,13 +5,16 @@
 // When an area has no room for what is to be appended, or its slice is too short for it, the writer says so from then on, and
 // nothing more is written: the walk goes on, since a refusal that it meets later comes first.
 ghost use mathlib.Core.Path.{_≡_};
+ghost use mathlib.Core.List.{[], _++_};
 ghost use Prim.Native.Nat.{_+_, _*_, _≤_, _<_};
 ghost use lib.ListN.{length};
 ghost use lib.Seq.{sets};
 ghost use Rattle.format.specs.Entry.{le};
 ghost use Rattle.format.specs.Stands.{part};
-ghost use Rattle.buffer.specs.Buffer.{Decides};
-ghost use Rattle.area.specs.Area.{areaIn, emptyAt, overflowOf, grown, headed, RoomFor, appendIn, putIn, putTextIn, generated, appendOutIn, patchIn, finishedIn};
+ghost use Rattle.definition.specs.Text.{decimal};
+ghost use Rattle.definition.specs.Substitute.{inFile, generated};
+ghost use Rattle.buffer.specs.Buffer.{Decides, messageIn, writeIn};
+ghost use Rattle.area.specs.Area.{areaIn, emptyAt, overflowOf, grown, headed, RoomFor, appendIn, putIn, putTextIn, appendOutIn, patchIn, finishedIn};
 
 // A writer's state: its area's base, how many entries and text bytes stand there, and whether they were too many.
 pub struct Writer {
@@ -153,38 +156,76 @@ pub fn put_text(s: &mut [u8], out: Writer, code: u8, text: &[u8]) -> Writer
     )
 }
 
-// Writes `name`, `$` and `start` in decimal at the front of `text`, as far as it reaches.
-fn write_generated(text: &mut [u8], name: &[u8], start: u32)
-    ensures { λ _. ⌜ now (text .exit) ≡ sets (now (text .entry)) 0 (generated (now (name .entry)) start) ⌝ }
+// How many bytes a generated name has for its file: none in file 0.
+fn file_length(file: u16) -> usize
+    ensures { λ r. ⌜ r ≡ length (inFile file []) ⌝ }
 {
-    let size = text.len();
-    let dollar = name.len();
-    buffer::write(text, 0, name);
-    buffer::write(text, dollar, b"$");
-    if dollar < size {
-        let behind = dollar + 1;
-        buffer::digits(&mut text[behind..], start);
+    if file == 0 {
+        return 0;
+    }
+    1 + buffer::digit_count(file as u32)
+}
+
+// How many bytes a generated name has.
+fn generated_length(name: &[u8], start: u32, file: u16) -> usize
+    ensures { λ r. ⌜ r ≡ length (generated (now (name .entry)) start file) ⌝ }
+{
+    name.len() + 1 + buffer::digit_count(start) + file_length(file)
+}
+
+// Writes a mark at `at` and a number in decimal into the part of `text` behind it, as far as `text` reaches, and answers where
+// the number ends.
+fn write_marked(text: &mut [u8], at: usize, mark: &[u8], number: u32) -> usize
+    ensures { λ r. ⌜ messageIn (now (text .exit)) r ≡ writeIn (now (mark .entry) ++ decimal number) (messageIn (now (text .entry)) at) ⌝ }
+{
+    let behind = buffer::write_at(text, at, mark);
+    buffer::write_number(text, behind, number)
+}
+
+// Writes `name`, `$`, `start` and, in a file above 0, `#` and `file` at the front of `text`, as far as it reaches.
+fn write_generated(text: &mut [u8], name: &[u8], start: u32, file: u16)
+    ensures { λ _. ⌜ now (text .exit) ≡ sets (now (text .entry)) 0 (generated (now (name .entry)) start file) ⌝ }
+{
+    let dollar = buffer::write_at(text, 0, name);
+    let end = write_marked(text, dollar, b"$", start);
+    if file > 0 {
+        write_marked(text, end, b"#", file as u32);
     }
 }
 
 // Appends an entry with a generated name of `bytes` bytes, for which there is room.
-fn generate(s: &mut [u8], out: Writer, code: u8, name: &[u8], start: u32, bytes: usize) -> Writer
-    requires { ⌜ RoomFor (length (now s)) out 1 bytes × (bytes ≡ length (generated (now name) start)) ⌝ }
-    ensures { λ r. ⌜ areaIn r (now (s .exit)) ≡ putTextIn code (generated (now (name .entry)) start) (areaIn out (now (s .entry))) ⌝ }
+fn generate(
+    s: &mut [u8],
+    out: Writer,
+    code: u8,
+    name: &[u8],
+    start: u32,
+    file: u16,
+    bytes: usize,
+) -> Writer
+    requires { ⌜ RoomFor (length (now s)) out 1 bytes × (bytes ≡ length (generated (now name) start file)) ⌝ }
+    ensures { λ r. ⌜ areaIn r (now (s .exit)) ≡ putTextIn code (generated (now (name .entry)) start file) (areaIn out (now (s .entry))) ⌝ }
 {
     let from = out.base + 9216 + out.t;
     let end = from + bytes;
-    write_generated(&mut s[from..end], name, start);
+    write_generated(&mut s[from..end], name, start, file);
     write_heads(s, out, &[code], &buffer::value_bytes(bytes as u64), bytes)
 }
 
-// Appends an entry whose text is `name`, `$` and `start` in decimal.
-pub fn put_generated(s: &mut [u8], out: Writer, code: u8, name: &[u8], start: u32) -> Writer
-    ensures { λ r. ⌜ areaIn r (now (s .exit)) ≡ putTextIn code (generated (now (name .entry)) start) (areaIn out (now (s .entry))) ⌝ }
+// Appends an entry whose text is the name that a binder gets in the call at `start` of a file.
+pub fn put_generated(
+    s: &mut [u8],
+    out: Writer,
+    code: u8,
+    name: &[u8],
+    start: u32,
+    file: u16,
+) -> Writer
+    ensures { λ r. ⌜ areaIn r (now (s .exit)) ≡ putTextIn code (generated (now (name .entry)) start file) (areaIn out (now (s .entry))) ⌝ }
 {
-    let bytes = name.len() + 1 + buffer::digit_count(start);
+    let bytes = generated_length(name, start, file);
     if has_room(s.len(), out, 1, bytes) {
-        generate(s, out, code, name, start, bytes)
+        generate(s, out, code, name, start, file, bytes)
     } else {
         overflow(out)
     }

@@ -38,6 +38,7 @@ fn expand<'a>(case: u32, registry: &'a [u8], condition: &'a [u8]) {
         registry,
         condition,
         limit_of(case),
+        0,
         &mut result,
         &mut work,
         &mut message,

@@ -14,12 +14,12 @@ use Rattle.definition.proofs.Rules.{Closed, Each, Bears, rules-of, know
 use Rattle.definition.proofs.SaidSubstitute.{said-substitute}
 use Rattle.definition.proofs.SaidExpand.{said-expand}
 
-module _ {M : ℕ → Text → Type 0} (closed : Closed Any M) (limit : ℕ) where
+module _ {M : ℕ → Text → Type 0} (limit file : ℕ) (closed : Closed Any M file) where
   pub substitute-bears : (def : MacroDef) (call : Call) → Each M (flatDef def) → Each M (flatCall call)
-      → Bears M flatTree (substitute limit def call)
+      → Bears M flatTree (substitute limit file def call)
   substitute-bears def call d c = bears M (said-substitute (rules-of limit closed) def (known-each M d) call (known-each M c))
 
   pub expand-bears : (defs : List MacroDef) → All (λ (d : MacroDef). Each M (flatDef d)) defs → (c : Condition) → Each M (flatCondition c)
-      → Bears M flatTree (expand limit defs c)
+      → Bears M flatTree (expand limit file defs c)
   expand-bears defs d c k =
-      bears M (said-expand defs limit (rules-of limit closed) (all-map (λ x h. known-each M h) d) (refuses-build defs) c (known-each M k))
+      bears M (said-expand defs limit file (rules-of limit closed) (all-map (λ x h. known-each M h) d) (refuses-build defs) c (known-each M k))

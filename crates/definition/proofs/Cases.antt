@@ -21,7 +21,7 @@ use Rattle.definition.specs.Registry.{openRegistry}
 use Rattle.definition.specs.Expand.{openExpand}
 use Rattle.definition.specs.Answers.{answer, numberAlone, reading, longBuffers, treeAnswer, expandTapes, expandAnswer}
 use Rattle.definition.specs.Messages.{openMessages}
-use Rattle.definition.specs.Cases.{definitions, cases, orCase, run, resultOf, expected, line, runBytes, undeclared}
+use Rattle.definition.specs.Cases.{definitions, cases, orCase, runIn, run, caseInFile, resultOf, expected, line, runBytes, undeclared}
 
 pub fourteen-cases : map run cases ≡ cases
 unfolding
@@ -29,7 +29,14 @@ unfolding
     cases run
 fourteen-cases = refl
 
--- the same through bytes: the registry and the condition are encoded, read back and expanded, and the result is encoded
+-- a file above 0 is in the name, and nothing else changes
+pub case-in-file : runIn 65535 caseInFile ≡ caseInFile
+unfolding
+    openEntry openFlat openLimits openText openOutcome openSize openCheck openSubstitute openRegistry openExpand definitions
+    runIn caseInFile
+case-in-file = refl
+
+-- the fourteen through bytes: the registry and the condition are encoded, read back and expanded, and the result is encoded
 pub fourteen-cases-through-bytes : map runBytes cases ≡ map expected cases
 unfolding
     openEntry openUtf8 openFlat openMacro openLimits openReplace openDeMorgan openBuild openTape openText openOutcome openSize openCheck openSubstitute

@@ -46,7 +46,7 @@ safe (good-refused t) =
     }
 
 pub demand3 : Demand3
-demand3 limit def call h q = safe (free-substitute limit def call h (sym (q .right-number)) (to-free _ (q .plain-arguments)))
+demand3 limit file def call h q = safe (free-substitute limit file def call h (sym (q .right-number)) (to-free _ (q .plain-arguments)))
 
 -- ------------------------------------------------------------------ on tapes
 
@@ -93,7 +93,7 @@ safe-answer b o g = go (longBuffers b)
 
 pub demand3-on-tapes : Demand3OnTapes
 unfolding substituteAnswer substituteTapes reading
-demand3-on-tapes b limit definition input def call tapes p q =
+demand3-on-tapes b limit file definition input def call tapes p q =
     rw (tapes .its-definition, tapes .its-call)
-    (safe-answer b (substitute limit def call)
-    (free-substitute limit def call (passed definition def (tapes .its-definition) p) (sym (q .right-number)) (to-free _ (q .plain-arguments))))
+    (safe-answer b (substitute limit file def call)
+    (free-substitute limit file def call (passed definition def (tapes .its-definition) p) (sym (q .right-number)) (to-free _ (q .plain-arguments))))

@@ -401,25 +401,25 @@ good-substituteValue maps q t h n =
     step (good-limits _ _ n₁) λ u n₂ v.
     good-done f
 
-module _ (limit : ℕ) (def : MacroDef) (span : ℕ) (name : Text) (args : CallArgs) (fair : Fair (mapsOf def limit (Call.MacroCall span name args))) where
+module _ (limit file : ℕ) (def : MacroDef) (span : ℕ) (name : Text) (args : CallArgs) (fair : Fair (mapsOf def limit file (Call.MacroCall span name args))) where
   good-body : (body : MacroBody) → checkBody (namesOf (def .params)) body ≡ none → (n : ℕ)
-      → Leaves FreeTree (substituteBody limit def body (Call.MacroCall span name args) n)
+      → Leaves FreeTree (substituteBody limit file def body (Call.MacroCall span name args) n)
   unfolding substituteBody mapsOf _>>=_ _>>_ allowed checkBody flatTree
   good-body MacroBody.Cedar h n = good-refused tt
   good-body (MacroBody.TemporalCondition c) h n =
       step (good-arity def _ _ n) λ u n₁ v.
       step (good-chargeBody limit _ _ n₁) λ u′ n₂ v′.
-      step (good-substituteCondition (mapsOf def limit (Call.MacroCall span name args)) fair c h n₂) λ c′ n₃ f.
+      step (good-substituteCondition (mapsOf def limit file (Call.MacroCall span name args)) fair c h n₂) λ c′ n₃ f.
       good-done f
   good-body (MacroBody.TemporalValue t) h n =
       step (good-arity def _ _ n) λ u n₁ v.
       step (good-chargeBody limit _ _ n₁) λ u′ n₂ v′.
-      step (good-substituteValue (mapsOf def limit (Call.MacroCall span name args)) fair t h n₂) λ t′ n₃ f.
+      step (good-substituteValue (mapsOf def limit file (Call.MacroCall span name args)) fair t h n₂) λ t′ n₃ f.
       good-done f
 
-pub free-substitute : (limit : ℕ) (def : MacroDef) (call : Call)
+pub free-substitute : (limit file : ℕ) (def : MacroDef) (call : Call)
     → checkDef def ≡ none → length (def .params) ≡ lengthArgs (argsOf call) → Free (flatArgs (argsOf call))
-    → Leaves FreeTree (substitute limit def call)
+    → Leaves FreeTree (substitute limit file def call)
 unfolding checkDef argsOf substitute mapsOf
-free-substitute limit def (Call.MacroCall span name args) h e f =
-    good-body limit def span name args (record { count = e; free = f }) (def .body) h 0
+free-substitute limit file def (Call.MacroCall span name args) h e f =
+    good-body limit file def span name args (record { count = e; free = f }) (def .body) h 0

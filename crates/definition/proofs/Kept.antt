@@ -48,8 +48,8 @@ SizedDef d = All Sized (flatDef d)
 no-message : Short []
 no-message = lit≤ tt
 
-short-rules : (limit : ℕ) → limit < 2 ^ 32 → Rules Name Unasked Short Number (λ n. n ≤ limit) limit
-short-rules limit small =
+short-rules : (limit file : ℕ) → limit < 2 ^ 32 → Rules Name Unasked Short Number (λ n. n ≤ limit) limit file
+short-rules limit file small =
     record {
       closed = closed-texts (λ t k start. tt);
       charged = λ n h. h;
@@ -271,22 +271,22 @@ bounded-kept b limit large long (good-refused {r = r} {n = n} k) =
 
 pub substitute-bounded : SubstituteBounded
 unfolding substituteAnswer substituteTapes
-substitute-bounded b limit small definition input p q =
+substitute-bounded b limit file small definition input p q =
     bounded-tree b limit _ λ large long.
     bounded-reading treeTape b limit (read definitionRoot definition) _ λ def h.
     bounded-reading treeTape b limit (read callRoot input) _ λ call k.
     let d = read-on-tape definitionRoot rewrites-definition lawful-definition definition p def h in
     let c = read-on-tape callRoot rewrites-call lawful-call input q call k in
     bounded-kept b limit large long
-    (said-substitute (short-rules limit small) def (sized-definition _ def d) call (sized-call _ call c))
+    (said-substitute (short-rules limit file small) def (sized-definition _ def d) call (sized-call _ call c))
 
 pub expand-bounded : ExpandBounded
 unfolding expandAnswer expandTapes
-expand-bounded b limit small registry input p q =
+expand-bounded b limit file small registry input p q =
     bounded-tree b limit _ λ large long.
     bounded-reading treeTape b limit (read registryRoot registry) _ λ defs h.
     bounded-reading treeTape b limit (read conditionRoot input) _ λ condition k.
     let ds = sized-registry _ defs (read-on-tape registryRoot rewrites-registry lawful-registry registry p defs h) in
     let c = read-on-tape conditionRoot rewrites-condition lawful-condition input q condition k in
     bounded-kept b limit large long
-    (said-expand defs limit (short-rules limit small) ds (short-build defs ds) condition (sized-condition _ condition c))
+    (said-expand defs limit file (short-rules limit file small) ds (short-build defs ds) condition (sized-condition _ condition c))

@@ -8,6 +8,8 @@ pub mod Withdrawn
 pub mod Older
 pub mod SameVerdicts
 pub mod Names
+pub mod LengthenedSubstitute
+pub mod Lengthened
 pub mod Size
 pub mod Decimal
 mod Good
@@ -16,6 +18,7 @@ mod Verdicts
 mod FreeWalk
 mod Lookup
 mod Lengths
+mod Grown
 pub mod WholeMessages
 mod Rules
 mod SaidSubstitute

@@ -217,7 +217,7 @@ module _ (reg : Registry) (pass : AllPass (reg .defs)) where
         step (free-args args h n₃) λ args′ n₄ f.
         step (good-limits _ span n₄) λ u₅ n₅ v₅.
         step (good-chargeBody (reg .limit) _ span n₅) λ u₆ n₆ v₆.
-        good-substituteCondition (mapsOf def (reg .limit) (Call.MacroCall span name args′)) (record { count = e ∙ sym (f .0); free = f .1 }) body b n₆
+        good-substituteCondition (mapsOf def (reg .limit) (reg .file) (Call.MacroCall span name args′)) (record { count = e ∙ sym (f .0); free = f .1 }) body b n₆
 
     free-callToValue : (c : Call) → ClearCall c → (n : ℕ) → Leaves FreeTerm (expandTemporalCallToValue reg c n)
     free-callToValue (Call.MacroCall span name args) h n =
@@ -227,7 +227,7 @@ module _ (reg : Registry) (pass : AllPass (reg .defs)) where
         step (free-args args h n₃) λ args′ n₄ f.
         step (good-limits _ span n₄) λ u₅ n₅ v₅.
         step (good-chargeBody (reg .limit) _ span n₅) λ u₆ n₆ v₆.
-        good-substituteValue (mapsOf def (reg .limit) (Call.MacroCall span name args′)) (record { count = e ∙ sym (f .0); free = f .1 }) body b n₆
+        good-substituteValue (mapsOf def (reg .limit) (reg .file) (Call.MacroCall span name args′)) (record { count = e ∙ sym (f .0); free = f .1 }) body b n₆
 
     free-args : (args : CallArgs) → ClearArgs args → (n : ℕ) → Leaves (FreeArgs (lengthArgs args)) (expandTemporalCallArgs reg args n)
     free-args CallArgs.noArgs h n = good-done (refl, all-nil)
@@ -289,5 +289,5 @@ free-whole reg pass c h n =
 
 pub no-residue : NoResidue
 unfolding expand
-no-residue limit defs c pass h =
-    safe (free-unless (fine-build defs) (free-whole (record { defs = defs; limit = limit }) pass c h) 0)
+no-residue limit file defs c pass h =
+    safe (free-unless (fine-build defs) (free-whole (record { defs = defs; limit = limit; file = file }) pass c h) 0)

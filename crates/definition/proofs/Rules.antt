@@ -4,7 +4,7 @@
 -- Assumes nothing.
 use Prim.Native.Nat.{ℕ, _≤_}
 use mathlib.Core.Path.{_≡_}
-use mathlib.Core.List.{List, [], _++_}
+use mathlib.Core.List.{List, []}
 use mathlib.Core.Bool.{false, not}
 use lib.Dec.{T, eqb}
 use Rattle.format.specs.Entry.{Text, Entry}
@@ -12,27 +12,27 @@ use Rattle.format.specs.Ast.{Sigil, Condition, Tree, MacroDef}
 use Rattle.format.specs.Flat.{flatTree}
 use Rattle.format.specs.Limits.{tooLargeTree}
 use Rattle.format.proofs.All.{All, all-map}
-use Rattle.definition.specs.Text.{utf8, decimal}
 use Rattle.definition.specs.Outcome.{Refusal, Outcome}
 use Rattle.definition.specs.Messages.{unknownMacro, cedarInCondition, cedarInValue, valueAsCondition, conditionAsValue, argumentCount, budgetExceeded, strayCondition, strayWithin, straySlot, strayField, strayOperand, unboundParameter, notACondition, binderAsCondition, notAnInterval, notATerm, notAnIdentifier, notAPredicate}
+use Rattle.definition.specs.Substitute.{generated}
 use Rattle.definition.specs.Registry.{build}
 use Rattle.definition.proofs.Good.{Good, good-done, good-refused}
 use Rattle.definition.proofs.Verdicts.{Any, Given, given-build, all-any}
 
 -- The entries that are no input's own: a name made of a binder, as a term and as a slot, an identifier that is put into a slot, and
 -- the 56 of a condition argument that becomes a term.
-pub record Closed (N : Text → Type 0) (M : ℕ → Text → Type 0) : Type 0 where
-  pub made-term : (t : Text) → N t → M 33 t → (start : ℕ) → M 27 (t ++ (utf8 "$" ++ decimal start))
-  pub made-slot : (t : Text) → N t → M 45 t → (start : ℕ) → M 43 (t ++ (utf8 "$" ++ decimal start))
+pub record Closed (N : Text → Type 0) (M : ℕ → Text → Type 0) (file : ℕ) : Type 0 where
+  pub made-term : (t : Text) → N t → M 33 t → (start : ℕ) → M 27 (generated t start file)
+  pub made-slot : (t : Text) → N t → M 45 t → (start : ℕ) → M 43 (generated t start file)
   pub named-slot : (t : Text) → M 27 t → M 43 t
   pub call-term : M 55 [] → M 56 []
 
 -- where the code says nothing
-pub closed-texts : {N M : Text → Type 0} → ((t : Text) → N t → (start : ℕ) → M (t ++ (utf8 "$" ++ decimal start))) → Closed N (λ c t. M t)
+pub closed-texts : {N M : Text → Type 0} {file : ℕ} → ((t : Text) → N t → (start : ℕ) → M (generated t start file)) → Closed N (λ c t. M t) file
 closed-texts new = record { made-term = λ t k m start. new t k start; made-slot = λ t k m start. new t k start; named-slot = λ t m. m; call-term = λ m. m }
 
-pub record Rules (N : Text → Type 0) (M : ℕ → Text → Type 0) (S : Text → Type 0) (K C : ℕ → Type 0) (limit : ℕ) : Type 0 where
-  pub closed : Closed N M
+pub record Rules (N : Text → Type 0) (M : ℕ → Text → Type 0) (S : Text → Type 0) (K C : ℕ → Type 0) (limit file : ℕ) : Type 0 where
+  pub closed : Closed N M file
   pub charged : (n : ℕ) → n ≤ limit → C n
   -- the messages, by number; 3 and 48 have none
   pub says-nothing : S []
@@ -90,7 +90,7 @@ Fits S M C f o = Good (Said S C) (λ a n. C n × Each M (flatTree (f a)) × (too
 -- ------------------------------------------------------------------ of a tree alone
 
 -- no rule but that of the entries
-pub rules-of : {M : ℕ → Text → Type 0} (limit : ℕ) → Closed Any M → Rules Any M Any Any-number Any-number limit
+pub rules-of : {M : ℕ → Text → Type 0} (limit : ℕ) {file : ℕ} → Closed Any M file → Rules Any M Any Any-number Any-number limit file
 rules-of limit closed =
     record {
       closed = closed;

@@ -20,9 +20,9 @@ use Rattle.definition.proofs.Verdicts.{Given, passes, refuses}
 use Rattle.definition.proofs.Rules.{Rules, Known, RefusalMatches, Said, Answers, Fits}
 use Rattle.definition.proofs.SaidSubstitute.{own, said-arity, said-limits, said-chargeBody, said-refine, def-body, said-substituteCondition, said-substituteValue}
 
-module _ {N S : Text → Type 0} {M : ℕ → Text → Type 0} {K C : ℕ → Type 0} (defs : List MacroDef) (limit : ℕ) (rules : Rules N M S K C limit) where
+module _ {N S : Text → Type 0} {M : ℕ → Text → Type 0} {K C : ℕ → Type 0} (defs : List MacroDef) (limit file : ℕ) (rules : Rules N M S K C limit file) where
   abbrev reg : Registry
-  reg = record { defs = defs; limit = limit }
+  reg = record { defs = defs; limit = limit; file = file }
 
   abbrev Tests : Outcome (Unit {0}) → Type 0
   Tests o = Good (Said S C) (λ u n. C n) o
@@ -289,6 +289,6 @@ module _ {N S : Text → Type 0} {M : ℕ → Text → Type 0} {K C : ℕ → Ty
     said-unless (refuses t) g n h = good-refused (t, h)
 
     pub said-expand : Given (RefusalMatches S) (build defs) → (c : Condition) → All (Known N M K) (flatCondition c)
-        → Fits S M C (λ t. t) (expand limit defs c)
+        → Fits S M C (λ t. t) (expand limit file defs c)
     unfolding expand
     said-expand v c k = said-unless v (said-whole c k) 0 (rules .charged 0 (omega arith))

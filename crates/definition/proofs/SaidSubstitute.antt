@@ -35,7 +35,7 @@ module _ {P : Entry → Type 0} (def : MacroDef) (h : All P (flatDef def)) where
   unfolding flatDef
   def-body = all-right (flatParams (def .params)) (all-tail (all-tail (all-tail h)))
 
-module _ {N S : Text → Type 0} {M : ℕ → Text → Type 0} {K C : ℕ → Type 0} {limit : ℕ} (rules : Rules N M S K C limit) where
+module _ {N S : Text → Type 0} {M : ℕ → Text → Type 0} {K C : ℕ → Type 0} {limit file : ℕ} (rules : Rules N M S K C limit file) where
   -- a tree's own entries
   pub own : {es : List Entry} → All (Known N M K) es → Each M es
   own h = all-map (λ e k. k .2) h
@@ -123,7 +123,7 @@ module _ {N S : Text → Type 0} {M : ℕ → Text → Type 0} {K C : ℕ → Ty
 
   -- ------------------------------------------------------------------ the places of a parameter
 
-  module _ (maps : SubstMaps) (same : maps .limit ≡ limit) (macro : N (maps .macroName)) (given : Each M (flatArgs (maps .args))) where
+  module _ (maps : SubstMaps) (same : maps .limit ≡ limit) (same-file : maps .file ≡ file) (macro : N (maps .macroName)) (given : Each M (flatArgs (maps .args))) where
     said-argFor : (name : Text) → N name → (span n : ℕ) → C n → Answers S M C flatArg (argFor maps name span n)
     unfolding argFor
     said-argFor name k span n h = go (lookup (maps .params) (maps .args) name) (lookup-in (maps .params) (maps .args) name given)
@@ -192,11 +192,20 @@ module _ {N S : Text → Type 0} {M : ℕ → Text → Type 0} {K C : ℕ → Ty
 
     -- ------------------------------------------------------------------ slots, intervals, sigils
 
+    -- a binder's name, in the code that stands there
+    made-term : (t : Text) → N t → M 33 t → M 27 (gensymFor maps t)
+    unfolding gensymFor
+    made-term t k m = rw same-file (rules .closed .made-term t k m (spanStart (maps .callSpan)))
+
+    made-slot : (t : Text) → N t → M 45 t → M 43 (gensymFor maps t)
+    unfolding gensymFor
+    made-slot t k m = rw same-file (rules .closed .made-slot t k m (spanStart (maps .callSpan)))
+
     said-slot : (v : BinderSlot) → Known N M K (flatSlot v) → (span n : ℕ) → C n → Spelt flatSlot (substBinderSlot maps v span n)
-    unfolding substBinderSlot gensymFor _>>=_ flatSlot
+    unfolding substBinderSlot _>>=_ flatSlot
     said-slot (BinderSlot.Name i) k span n h = good-done (h, k .2)
     said-slot (BinderSlot.ParamRef i) k span n h = step (said-argFor i (k .0) span n h) λ a n₁ h₁. said-pasteSlot i (k .0) a n₁ (h₁ .0) (h₁ .1)
-    said-slot (BinderSlot.BinderRef i) k span n h = good-done (h, rules .closed .made-slot i (k .0) (k .2) (spanStart (maps .callSpan)))
+    said-slot (BinderSlot.BinderRef i) k span n h = good-done (h, made-slot i (k .0) (k .2))
 
     said-binder : (b : TypedBinder) → All (Known N M K) (flatBinder b) → (span n : ℕ) → C n → Answers S M C flatBinder (substBinder maps b span n)
     unfolding substBinder _>>=_ flatBinder
@@ -225,7 +234,7 @@ module _ {N S : Text → Type 0} {M : ℕ → Text → Type 0} {K C : ℕ → Ty
     -- ------------------------------------------------------------------ the walk of the body
 
     mutual
-      unfolding substTemporalCondition gensymFor _>>=_ flatCondition
+      unfolding substTemporalCondition _>>=_ flatCondition
 
       said-condition : (c : Condition) → All (Known N M K) (flatCondition c) → (n : ℕ) → C n
           → Answers S M C flatCondition (substTemporalCondition maps c n)
@@ -289,7 +298,7 @@ module _ {N S : Text → Type 0} {M : ℕ → Text → Type 0} {K C : ℕ → Ty
       said-term : (t : Term) → All (Known N M K) (flatTerm t) → (s n : ℕ) → C n → Answers S M C flatTerm (substTemporalTerm maps t s n)
       said-term (Term.ParamRef i) k s n h =
           step (said-argFor i (all-head k .0) s n h) λ a n₁ h₁. said-pasteTerm s i (all-head k .0) a n₁ (h₁ .0) (h₁ .1)
-      said-term (Term.BinderRef i) k s n h = good-done (h, all-cons (rules .closed .made-term i (all-head k .0) (all-head k .2) (spanStart (maps .callSpan))) all-nil)
+      said-term (Term.BinderRef i) k s n h = good-done (h, all-cons (made-term i (all-head k .0) (all-head k .2)) all-nil)
       said-term (Term.Array ts) k s n h = step (said-terms ts (all-tail k) s n h) λ ts′ n₁ h₁. good-done (h₁ .0, all-cons (all-head k .2) (h₁ .1))
       said-term (Term.Agg a) k s n h = step (said-agg a (all-tail k) n h) λ a′ n₁ h₁. good-done (h₁ .0, all-cons (all-head k .2) (h₁ .1))
       said-term (Term.Arith op l r) k s n h =
@@ -325,23 +334,23 @@ module _ {N S : Text → Type 0} {M : ℕ → Text → Type 0} {K C : ℕ → Ty
 
   module _ (def : MacroDef) (known : All (Known N M K) (flatDef def)) where
     pub said-substituteCondition : (c : Condition) → All (Known N M K) (flatCondition c) → (call : Call) → Each M (flatArgs (argsOf call))
-        → (n : ℕ) → C n → Fits S M C Tree.condition (substituteTemporalCondition c (mapsOf def limit call) n)
+        → (n : ℕ) → C n → Fits S M C Tree.condition (substituteTemporalCondition c (mapsOf def limit file call) n)
     unfolding substituteTemporalCondition mapsOf argsOf _>>=_ _>>_ flatTree
     said-substituteCondition c k (Call.MacroCall span name args) f n h =
-        step (said-condition (mapsOf def limit (Call.MacroCall span name args)) refl (def-name def known .0) f c k n h) λ c′ n₁ h₁.
+        step (said-condition (mapsOf def limit file (Call.MacroCall span name args)) refl refl (def-name def known .0) f c k n h) λ c′ n₁ h₁.
         step (said-limits _ span n₁ (h₁ .0)) λ u n₂ h₂.
         good-done (h₂ .0, h₁ .1, h₂ .1)
 
     pub said-substituteValue : (t : Term) → All (Known N M K) (flatTerm t) → (call : Call) → Each M (flatArgs (argsOf call))
-        → (n : ℕ) → C n → Fits S M C Tree.term (substituteTemporalValue t (mapsOf def limit call) n)
+        → (n : ℕ) → C n → Fits S M C Tree.term (substituteTemporalValue t (mapsOf def limit file call) n)
     unfolding substituteTemporalValue mapsOf argsOf _>>=_ _>>_ flatTree
     said-substituteValue t k (Call.MacroCall span name args) f n h =
-        step (said-term (mapsOf def limit (Call.MacroCall span name args)) refl (def-name def known .0) f t k span n h) λ t′ n₁ h₁.
+        step (said-term (mapsOf def limit file (Call.MacroCall span name args)) refl refl (def-name def known .0) f t k span n h) λ t′ n₁ h₁.
         step (said-limits _ span n₁ (h₁ .0)) λ u n₂ h₂.
         good-done (h₂ .0, h₁ .1, h₂ .1)
 
     said-body : (body : MacroBody) → All (Known N M K) (flatBody body) → (call : Call) → All (Known N M K) (flatCall call) → (n : ℕ) → C n
-        → Fits S M C (λ t. t) (substituteBody limit def body call n)
+        → Fits S M C (λ t. t) (substituteBody limit file def body call n)
     unfolding substituteBody flatBody flatCall argsOf _>>=_ _>>_
     said-body MacroBody.Cedar k (Call.MacroCall span name args) c n h =
         good-refused ((rules .says-31 name (all-head (all-tail c) .0), tt), h)
@@ -356,6 +365,6 @@ module _ {N S : Text → Type 0} {M : ℕ → Text → Type 0} {K C : ℕ → Ty
         step (said-substituteValue body (all-tail k) (Call.MacroCall span name args) (own (all-tail (all-tail (all-tail c)))) n₂ h₂) λ t′ n₃ h₃.
         good-done h₃
 
-    pub said-substitute : (call : Call) → All (Known N M K) (flatCall call) → Fits S M C (λ t. t) (substitute limit def call)
+    pub said-substitute : (call : Call) → All (Known N M K) (flatCall call) → Fits S M C (λ t. t) (substitute limit file def call)
     unfolding substitute
     said-substitute call c = said-body (def .body) (def-body def known) call c 0 (rules .charged 0 (omega arith))

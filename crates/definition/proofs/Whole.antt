@@ -27,7 +27,7 @@ use Rattle.definition.proofs.Verdicts.{Given, passes, refuses, given-bo
 use Rattle.definition.proofs.Rules.{closed-texts, Rules, Any-number, Known, RefusalMatches, Fits}
 use Rattle.definition.proofs.SaidSubstitute.{def-name, def-body, said-substitute}
 use Rattle.definition.proofs.SaidExpand.{said-expand}
-use Rattle.definition.proofs.WholeMessages.{Well, well-gensym, well-reserved, well-duplicate, well-undeclared, well-plain, well-unknown, well-cedarInCondition, well-cedarInValue, well-valueAsCondition, well-conditionAsValue, well-count, well-strayCondition, well-strayWithin, well-straySlot, well-strayField, well-strayOperand, well-binderAsCondition, well-unbound, well-notACondition, well-notAnInterval, well-notATerm, well-notAnIdentifier, well-macroInMacro, well-budget, well-notAPredicate}
+use Rattle.definition.proofs.WholeMessages.{Well, well-generated, well-reserved, well-duplicate, well-undeclared, well-plain, well-unknown, well-cedarInCondition, well-cedarInValue, well-valueAsCondition, well-conditionAsValue, well-count, well-strayCondition, well-strayWithin, well-straySlot, well-strayField, well-strayOperand, well-binderAsCondition, well-unbound, well-notACondition, well-notAnInterval, well-notATerm, well-notAnIdentifier, well-macroInMacro, well-budget, well-notAPredicate}
 
 -- ------------------------------------------------------------------ the rules
 
@@ -38,10 +38,10 @@ silent : Well []
 unfolding openUtf8
 silent = tt
 
-whole-rules : (limit : ℕ) → Rules Well WellText Well Any-number Any-number limit
-whole-rules limit =
+whole-rules : (limit file : ℕ) → Rules Well WellText Well Any-number Any-number limit file
+whole-rules limit file =
     record {
-      closed = closed-texts well-gensym;
+      closed = closed-texts (λ t k start. well-generated t k start file);
       charged = λ n h. tt;
       says-nothing = silent;
       says-30 = well-unknown;
@@ -125,13 +125,13 @@ pub build-whole : BuildWhole
 build-whole defs h = whole-verdict (whole-build defs (known-registry defs h))
 
 pub substitute-whole : SubstituteWhole
-substitute-whole limit def call d c =
-    whole-outcome (said-substitute (whole-rules limit) def (known (flatDef def) d) call (known (flatCall call) c))
+substitute-whole limit file def call d c =
+    whole-outcome (said-substitute (whole-rules limit file) def (known (flatDef def) d) call (known (flatCall call) c))
 
 pub expand-whole : ExpandWhole
-expand-whole limit defs c d k =
+expand-whole limit file defs c d k =
     let ds = known-registry defs d in
-    whole-outcome (said-expand defs limit (whole-rules limit) ds (whole-build defs ds) c (known (flatCondition c) k))
+    whole-outcome (said-expand defs limit file (whole-rules limit file) ds (whole-build defs ds) c (known (flatCondition c) k))
 
 -- ------------------------------------------------------------------ on tapes
 
@@ -233,20 +233,20 @@ tree-whole b o h = go (longBuffers b)
 
 pub substitute-tapes-whole : SubstituteTapesWhole
 unfolding substituteAnswer substituteTapes definitionRoot callRoot
-substitute-tapes-whole b limit definition input p q =
+substitute-tapes-whole b limit file definition input p q =
     tree-whole b _
     (whole-reading (Answered b) (read definitionRoot definition) _ (bare-whole b 2 tt) (bare-whole b 3 tt) λ def h.
     whole-reading (Answered b) (read callRoot input) _ (bare-whole b 2 tt) (bare-whole b 3 tt) λ call k.
     let d = known (flatDef def) (accepted-texts definitionRoot rewrites-definition lawful-definition definition p def h) in
     let c = known (flatCall call) (accepted-texts callRoot rewrites-call lawful-call input q call k) in
-    answer-whole b (said-substitute (whole-rules limit) def d call c))
+    answer-whole b (said-substitute (whole-rules limit file) def d call c))
 
 pub expand-tapes-whole : ExpandTapesWhole
 unfolding expandAnswer expandTapes registryRoot conditionRoot
-expand-tapes-whole b limit registry input p q =
+expand-tapes-whole b limit file registry input p q =
     tree-whole b _
     (whole-reading (Answered b) (read registryRoot registry) _ (bare-whole b 2 tt) (bare-whole b 3 tt) λ defs h.
     whole-reading (Answered b) (read conditionRoot input) _ (bare-whole b 2 tt) (bare-whole b 3 tt) λ condition k.
     let ds = known-registry defs (accepted-texts registryRoot rewrites-registry lawful-registry registry p defs h) in
     let c = known (flatCondition condition) (accepted-texts conditionRoot rewrites-condition lawful-condition input q condition k) in
-    answer-whole b (said-expand defs limit (whole-rules limit) ds (whole-build defs ds) condition c))
+    answer-whole b (said-expand defs limit file (whole-rules limit file) ds (whole-build defs ds) condition c))

@@ -76,9 +76,9 @@ size-of-rewritten c = size-becomes (becomes-condition c)
 NotOr : ℕ → Text → Type 0
 NotOr c t = eqb c 2 ≡ false
 
-closed : Closed Any NotOr
+closed : (file : ℕ) → Closed Any NotOr file
 unfolding NotOr
-closed = record { made-term = λ t k m start. refl; made-slot = λ t k m start. refl; named-slot = λ k h. refl; call-term = λ h. refl }
+closed file = record { made-term = λ t k m start. refl; made-slot = λ t k m start. refl; named-slot = λ k h. refl; call-term = λ h. refl }
 
 abbrev NoOrTree : Outcome Tree → Type 0
 NoOrTree o = Bears NotOr flatTree o
@@ -91,8 +91,8 @@ no-or (good-refused r) t charged e = let z : _≡_ {A = ℕ} 0 1 = cc in absurd 
 
 pub substitute-no-or : SubstituteNoOr
 unfolding NotOr
-substitute-no-or limit def call =
-    no-or (substitute-bears closed limit _ _ (become-no-or (becomes-definition def)) (become-no-or (becomes-call call)))
+substitute-no-or limit file def call =
+    no-or (substitute-bears limit file (closed file) _ _ (become-no-or (becomes-definition def)) (become-no-or (becomes-call call)))
 
 no-or-defs : (defs : List MacroDef) → All (λ (d : MacroDef). Each NotOr (flatDef d)) (replaceDefs deMorgan defs)
 unfolding NotOr replaceDefs deMorgan
@@ -101,8 +101,8 @@ no-or-defs (d ∷ ds) = all-cons (become-no-or (becomes-definition d)) (no-or-de
 
 pub expand-no-or : ExpandNoOr
 unfolding NotOr
-expand-no-or limit defs c =
-    no-or (expand-bears closed limit _ (no-or-defs defs) _ (become-no-or (becomes-condition c)))
+expand-no-or limit file defs c =
+    no-or (expand-bears limit file (closed file) _ (no-or-defs defs) _ (become-no-or (becomes-condition c)))
 
 -- ------------------------------------------------------------------ on tapes
 
@@ -134,11 +134,11 @@ read-carries {A} root r bytes k f = go (read root bytes) refl
 
 pub substitute-result-no-or : SubstituteResultNoOr
 unfolding substituteAnswer substituteTapes NotOr definitionRoot callRoot
-substitute-result-no-or b limit definition input =
+substitute-result-no-or b limit file definition input =
     tree-no-or b
     (read-carries definitionRoot rewrites-definition definition _ λ def d.
     read-carries callRoot rewrites-call input _ λ call c.
-    substitute-bears closed limit def call d c)
+    substitute-bears limit file (closed file) def call d c)
 
 each-def : (defs : List MacroDef) → All NoOrEntry (flatDefs defs) → All (λ (d : MacroDef). Each NotOr (flatDef d)) defs
 unfolding flatDefs NotOr
@@ -147,8 +147,8 @@ each-def (d ∷ ds) h = all-cons (all-left (flatDef d) _ h) (each-def ds (all-ri
 
 pub expand-result-no-or : ExpandResultNoOr
 unfolding expandAnswer expandTapes NotOr registryRoot conditionRoot flatRegistry
-expand-result-no-or b limit registry input =
+expand-result-no-or b limit file registry input =
     tree-no-or b
     (read-carries registryRoot rewrites-registry registry _ λ defs d.
     read-carries conditionRoot rewrites-condition input _ λ condition c.
-    expand-bears closed limit defs (each-def defs (all-tail d)) condition c)
+    expand-bears limit file (closed file) defs (each-def defs (all-tail d)) condition c)

@@ -1,4 +1,4 @@
--- The answer of each operation, from the bytes of its tapes, the limit and the lengths of its buffers: number, span, message
+-- The answer of each operation, from the bytes of its tapes, the limit, the file number and the lengths of its buffers: number, span, message
 -- length, charged figure, and every byte of the buffers afterwards (document 01, "Refusals of the expander").
 -- Assumes nothing.
 use Prim.Native.Nat.{ℕ, _-_}
@@ -84,19 +84,19 @@ unfoldable pub treeAnswer : Buffers → Outcome Tree → Answer
 treeAnswer b o = answer (λ (t : Tree). encode (flatTree t)) b (elim (longBuffers b) [ true ↦ o | false ↦ numberAlone 1 ])
 
 -- "then tapes, registry or definition first"
-unfoldable pub expandTapes : ℕ → List ℕ → List ℕ → Outcome Tree
-expandTapes limit registry input =
-    reading (read registryRoot registry) λ defs. reading (read conditionRoot input) λ c. expand limit defs c
+unfoldable pub expandTapes : (limit file : ℕ) → List ℕ → List ℕ → Outcome Tree
+expandTapes limit file registry input =
+    reading (read registryRoot registry) λ defs. reading (read conditionRoot input) λ c. expand limit file defs c
 
-unfoldable pub expandAnswer : Buffers → ℕ → List ℕ → List ℕ → Answer
-expandAnswer b limit registry input = treeAnswer b (expandTapes limit registry input)
+unfoldable pub expandAnswer : Buffers → (limit file : ℕ) → List ℕ → List ℕ → Answer
+expandAnswer b limit file registry input = treeAnswer b (expandTapes limit file registry input)
 
-unfoldable pub substituteTapes : ℕ → List ℕ → List ℕ → Outcome Tree
-substituteTapes limit definition input =
-    reading (read definitionRoot definition) λ def. reading (read callRoot input) λ c. substitute limit def c
+unfoldable pub substituteTapes : (limit file : ℕ) → List ℕ → List ℕ → Outcome Tree
+substituteTapes limit file definition input =
+    reading (read definitionRoot definition) λ def. reading (read callRoot input) λ c. substitute limit file def c
 
-unfoldable pub substituteAnswer : Buffers → ℕ → List ℕ → List ℕ → Answer
-substituteAnswer b limit definition input = treeAnswer b (substituteTapes limit definition input)
+unfoldable pub substituteAnswer : Buffers → (limit file : ℕ) → List ℕ → List ℕ → Answer
+substituteAnswer b limit file definition input = treeAnswer b (substituteTapes limit file definition input)
 
 -- ------------------------------------------------------------------ check and registry
 

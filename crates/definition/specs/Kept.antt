@@ -24,10 +24,10 @@ RegistryBounded = (m : ℕ) (registry : List ℕ) → Bytes registry → Bounded
 -- "The limit is below 2^32"
 abbrev pub SubstituteBounded : Type 0
 SubstituteBounded =
-    (b : Buffers) (limit : ℕ) → limit < 2 ^ 32 → (definition input : List ℕ) → Bytes definition → Bytes input
-    → Bounded b limit (substituteAnswer b limit definition input)
+    (b : Buffers) (limit file : ℕ) → limit < 2 ^ 32 → (definition input : List ℕ) → Bytes definition → Bytes input
+    → Bounded b limit (substituteAnswer b limit file definition input)
 
 abbrev pub ExpandBounded : Type 0
 ExpandBounded =
-    (b : Buffers) (limit : ℕ) → limit < 2 ^ 32 → (registry input : List ℕ) → Bytes registry → Bytes input
-    → Bounded b limit (expandAnswer b limit registry input)
+    (b : Buffers) (limit file : ℕ) → limit < 2 ^ 32 → (registry input : List ℕ) → Bytes registry → Bytes input
+    → Bounded b limit (expandAnswer b limit file registry input)

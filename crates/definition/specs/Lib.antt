@@ -10,6 +10,8 @@ pub mod Expand
 pub mod Answers
 pub mod Demand3
 pub mod Residue
+pub mod Names
+pub mod Lengthened
 pub mod Kept
 pub mod Whole
 pub mod Withdrawn

@@ -38,13 +38,13 @@ BuildWhole = (defs : List MacroDef) → T (wellTexts (flatRegistry defs)) → Wh
 
 abbrev pub SubstituteWhole : Type 0
 SubstituteWhole =
-    (limit : ℕ) (def : MacroDef) (call : Call) → T (wellTexts (flatDef def)) → T (wellTexts (flatCall call))
-    → WholeOutcome (substitute limit def call)
+    (limit file : ℕ) (def : MacroDef) (call : Call) → T (wellTexts (flatDef def)) → T (wellTexts (flatCall call))
+    → WholeOutcome (substitute limit file def call)
 
 abbrev pub ExpandWhole : Type 0
 ExpandWhole =
-    (limit : ℕ) (defs : List MacroDef) (c : Condition) → T (wellTexts (flatRegistry defs)) → T (wellTexts (flatCondition c))
-    → WholeOutcome (expand limit defs c)
+    (limit file : ℕ) (defs : List MacroDef) (c : Condition) → T (wellTexts (flatRegistry defs)) → T (wellTexts (flatCondition c))
+    → WholeOutcome (expand limit file defs c)
 
 -- ------------------------------------------------------------------ on tapes
 
@@ -67,10 +67,10 @@ RegistryWhole = (m : ℕ) (registry : List ℕ) → Bytes registry → WholeMess
 
 abbrev pub SubstituteTapesWhole : Type 0
 SubstituteTapesWhole =
-    (b : Buffers) (limit : ℕ) (definition input : List ℕ) → Bytes definition → Bytes input
-    → WholeAnswer b (substituteAnswer b limit definition input)
+    (b : Buffers) (limit file : ℕ) (definition input : List ℕ) → Bytes definition → Bytes input
+    → WholeAnswer b (substituteAnswer b limit file definition input)
 
 abbrev pub ExpandTapesWhole : Type 0
 ExpandTapesWhole =
-    (b : Buffers) (limit : ℕ) (registry input : List ℕ) → Bytes registry → Bytes input
-    → WholeAnswer b (expandAnswer b limit registry input)
+    (b : Buffers) (limit file : ℕ) (registry input : List ℕ) → Bytes registry → Bytes input
+    → WholeAnswer b (expandAnswer b limit file registry input)

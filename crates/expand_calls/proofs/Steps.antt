@@ -131,21 +131,21 @@ module _ (out : Writer) (next : Place) (work result : List ℕ) {w : Walk} where
   unfolding intoIn
   into-made {made} e q = rw e (ap (λ (P : Area). progress (walk.Going (state next (P .out) (made .charged))) (P .bytes) result) q)
 
-module _ (reg : List ℕ) (d : Layout) (limit : ℕ) (def : Macro) (call : Heading) (out : Writer) (w : Walk) (work result : List ℕ) {f : Walk}
+module _ (reg : List ℕ) (d : Layout) (limit file : ℕ) (def : Macro) (call : Heading) (out : Writer) (w : Walk) (work result : List ℕ) {f : Walk}
     (q : one.progress f work ≡ refuseTooLargeIn (call .span) grammar.call (one.progress w work)) where
-  fitted : after (λ filled bytes final. intoIn out (filled .place) bytes (applyIn reg d limit bytes def call filled final)) (progress f work result)
-      ≡ outcomeIn reg d limit def call out (progress w work result)
+  fitted : after (λ filled bytes final. intoIn out (filled .place) bytes (applyIn reg d limit file bytes def call filled final)) (progress f work result)
+      ≡ outcomeIn reg d limit file def call out (progress w work result)
   unfolding outcomeIn
   fitted =
       ap
       (λ (Y : one.Progress).
-      after (λ filled bytes final. intoIn out (filled .place) bytes (applyIn reg d limit bytes def call filled final)) (with result Y))
+      after (λ filled bytes final. intoIn out (filled .place) bytes (applyIn reg d limit file bytes def call filled final)) (with result Y))
       q
 
   pub outcome-refused : {r : Refused} {k : ℕ} → f ≡ walk.Refused r k
-      → progress f work result ≡ outcomeIn reg d limit def call out (progress w work result)
+      → progress f work result ≡ outcomeIn reg d limit file def call out (progress w work result)
   outcome-refused e = rw e (rw e at fitted)
 
-  pub outcome-made : {filled : State} {Y : one.Progress} {Z : Progress} → f ≡ walk.Going filled → Y ≡ applyIn reg d limit work def call filled result
-      → Z ≡ intoIn out (filled .place) work Y → Z ≡ outcomeIn reg d limit def call out (progress w work result)
+  pub outcome-made : {filled : State} {Y : one.Progress} {Z : Progress} → f ≡ walk.Going filled → Y ≡ applyIn reg d limit file work def call filled result
+      → Z ≡ intoIn out (filled .place) work Y → Z ≡ outcomeIn reg d limit file def call out (progress w work result)
   outcome-made {filled} e y z = z ∙ ap (intoIn out (filled .place) work) y ∙ (rw e at fitted)

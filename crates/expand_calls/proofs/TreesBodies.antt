@@ -80,15 +80,15 @@ Rooted result c = getD result 0 0 ≡ rootCondition c
 -- of the result buffer, is `Also`.
 pub record Kind {A : Type 0} (Also : List ℕ → A → Type 0) (flat : A → List Entry) (body : A → MacroBody) (become : A → SubstMaps → Walks A)
     : Type 0 where
-  pub substitutes : (dm : MacroDef) (span : ℕ) (name : Text) (args : CallArgs) (limit : ℕ) (located : Name) (def call : List ℕ)
+  pub substitutes : (dm : MacroDef) (span : ℕ) (name : Text) (args : CallArgs) (limit file : ℕ) (located : Name) (def call : List ℕ)
       (l c : Layout) (p q : Place) (h : Inside def l p (flatDef dm)) (g : Inside call c q (flatCall (Call.MacroCall span name args)))
       → lengthArgs args ≡ length (dm .params) → length (dm .params) ≤ 16 → (b : A) (k : ℕ) (P : Area)
       → Inside def l (bodyStart dm h) (flatBody (body b)) → deepBody nodeWeight (body b) ≤ 64 → Written P []
-      → WalkMatches (T dm span name args limit located h g) flat P []
-      (callIn def l call c limit (called dm h (body b)) (callHead dm span name args limit located h g)
-      (first dm span name args limit located h g) k (P .out) (P .bytes))
+      → WalkMatches (T dm span name args limit file located h g) flat P []
+      (callIn def l call c limit file (called dm h (body b)) (callHead dm span name args limit file located h g)
+      (first dm span name args limit file located h g) k (P .out) (P .bytes))
       (past (flatBody (body b)) (bodyStart dm h))
-      (proceed (chargeBody limit (body b) span k) (λ u. become b (mapsOf dm limit (Call.MacroCall span name args))))
+      (proceed (chargeBody limit (body b) span k) (λ u. become b (mapsOf dm limit file (Call.MacroCall span name args))))
   pub fits : (b : A) (maps : SubstMaps) (k : ℕ) → AllDone (λ (a : A). fitsArea (flat a) ≡ true) (become b maps k)
   pub also : (a : A) (Q : Area) → Q .out .base ≡ 0 → fitsArea (flat a) ≡ true → Written Q (flat a) → Also (Q .bytes) a
 
@@ -96,8 +96,8 @@ pub conditions : Kind Rooted flatCondition (λ b. MacroBody.TemporalCondition b)
 unfolding deepBody
 conditions =
     record {
-      substitutes = λ dm span name args limit located def call l c p q h g same few b k P i d w.
-          call-condition dm span name args limit located h g same few b k i d w;
+      substitutes = λ dm span name args limit file located def call l c p q h g same few b k P i d w.
+          call-condition dm span name args limit file located h g same few b k i d w;
       fits = condition-fits;
       also = λ c Q base fits w. first-code (starts-condition c) base (w .out .holds fits .stands);
     }
@@ -106,8 +106,8 @@ pub values : Kind Nothing flatTerm (λ b. MacroBody.TemporalValue b) substituteT
 unfolding deepBody
 values =
     record {
-      substitutes = λ dm span name args limit located def call l c p q h g same few b k P i d w.
-          call-value dm span name args limit located h g same few b k i d w;
+      substitutes = λ dm span name args limit file located def call l c p q h g same few b k P i d w.
+          call-value dm span name args limit file located h g same few b k i d w;
       fits = value-fits;
       also = λ t Q base fits w. tt;
     }

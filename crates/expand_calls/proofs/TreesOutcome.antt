@@ -56,11 +56,11 @@ module _ (R : Reads) {A : Type 0} {Also : List ℕ → A → Type 0} {flat : A �
   made {P = P} {work = work} {end = end} tell w a ready fits (sub.refuses {f} {r} bytes x same _) =
       refuses work bytes (ap (intoIn (P .out) end work) x) (tell f r same)
 
-  module _ (span : ℕ) (name : Text) (limit : ℕ) (dm : MacroDef) (b : A) where
+  module _ (span : ℕ) (name : Text) (limit file : ℕ) (dm : MacroDef) (b : A) where
     -- the charge for the body, and its substitution; before that 3
     abbrev pub substituted : CallArgs → Walks A
     substituted args k =
-        proceed (chargeBody limit (body b) span k) (λ u. become b (mapsOf dm limit (Call.MacroCall span name args)))
+        proceed (chargeBody limit (body b) span k) (λ u. become b (mapsOf dm limit file (Call.MacroCall span name args)))
 
     abbrev pub checked : CallArgs → Walks A
     checked args k = proceed (checkLimits (tooLargeCall (Call.MacroCall span name args)) span k) (λ u. substituted args)
@@ -77,7 +77,7 @@ module _ (R : Reads) {A : Type 0} {Also : List ℕ → A → Type 0} {flat : A �
           → Written (areaIn (P .out) (Q .bytes)) es → Above P (areaIn (P .out) (Q .bytes)) → Ready result
           → WalkMatches R Also flat P es
           (intoIn (P .out) end (Q .bytes)
-          (applyIn (R .registry) (R .definitions) limit (Q .bytes) (called dm h (body b)) head (state end (Q .out) k) result))
+          (applyIn (R .registry) (R .definitions) limit file (Q .bytes) (called dm h (body b)) head (state end (Q .out) k) result))
           end (substituted args k)
       unfolding applyIn tooLargeCall fitsAll past
       applied {P} {Q} {es} {end} result k args counts small q w a ready =
@@ -88,16 +88,16 @@ module _ (R : Reads) {A : Type 0} {Also : List ℕ → A → Type 0} {flat : A �
           let area : Layout = areaLayout (Q .out .base) (Q .out .n) (Q .out .t) in
           let g : Inside (Q .bytes) area (place 0 0) (flatCall c) = written-inside q fits (passes-call c .texted) in
           let at : Heading → Place → one.Progress =
-          λ head first. callIn (R .registry) (R .definitions) (Q .bytes) area limit (called dm h (body b)) head first k (emptyAt 0) result in
+          λ head first. callIn (R .registry) (R .definitions) (Q .bytes) area limit file (called dm h (body b)) head first k (emptyAt 0) result in
           let text : located .size ≡ 0 + 0 + length name + 0 = omega (arith, sized) in
           let one-call : at head (place 3 (located .size))
-          ≡ at (callHead dm span name args limit located h g) (first dm span name args limit located h g) =
+          ≡ at (callHead dm span name args limit file located h g) (first dm span name args limit file located h g) =
           ap (λ (n : ℕ). at (record { span = span; name = located; count = n }) (place 3 (located .size))) (sym counts)
-          ∙ ap (λ (t : ℕ). at (callHead dm span name args limit located h g) (place 3 t)) text in
+          ∙ ap (λ (t : ℕ). at (callHead dm span name args limit file located h g) (place 3 t)) text in
           starting R (ap (intoIn (P .out) end (Q .bytes)) one-call)
           (made (λ f r same. same (R .condition) (R .layout)) w a ready
-          (all-bind (λ (a : A). fitsArea (flat a) ≡ true) _ (chargeBody limit (body b) span k) (λ u k₁. K .fits b (mapsOf dm limit c) k₁))
-          (K .substitutes dm span name args limit located (R .registry) (Q .bytes) (R .definitions) area d (place 0 0) h g (counts ∙ same)
+          (all-bind (λ (a : A). fitsArea (flat a) ≡ true) _ (chargeBody limit (body b) span k) (λ u k₁. K .fits b (mapsOf dm limit file c) k₁))
+          (K .substitutes dm span name args limit file located (R .registry) (Q .bytes) (R .definitions) area d (place 0 0) h g (counts ∙ same)
           few b k (areaIn (emptyAt 0) result) stands deep (written-none 0 result ready (omega arith))))
 
       -- 3 if it is too large
@@ -105,7 +105,7 @@ module _ (R : Reads) {A : Type 0} {Also : List ℕ → A → Type 0} {flat : A �
           → Written Q (flatCall (Call.MacroCall span name args))
           → Written (areaIn (P .out) (Q .bytes)) es → Above P (areaIn (P .out) (Q .bytes)) → Ready result
           → WalkMatches R Also flat P es
-          (outcomeIn (R .registry) (R .definitions) limit (called dm h (body b)) head (P .out) (going end k Q result)) end (checked args k)
+          (outcomeIn (R .registry) (R .definitions) limit file (called dm h (body b)) head (P .out) (going end k Q result)) end (checked args k)
       unfolding outcomeIn refuseTooLargeIn tooLargeCall checkLimits openOutcome messageOf
       outcome {P} {Q} {es} {end} result k args counts q w a ready =
           rw (too-large (passes-call (Call.MacroCall span name args)) (omega arith) q)
@@ -116,7 +116,7 @@ module _ (R : Reads) {A : Type 0} {Also : List ℕ → A → Type 0} {flat : A �
               (after
               (λ filled work result.
               intoIn (P .out) (filled .place) work
-              (applyIn (R .registry) (R .definitions) limit work (called dm h (body b)) head filled result))
+              (applyIn (R .registry) (R .definitions) limit file work (called dm h (body b)) head filled result))
               (with result (pick large (one.progress (withoutMessageAt 3 span k) (Q .bytes)) (one.going end k Q))))
               end (proceed (checkLimits large span k) (λ u. substituted args))
           go true e = stops R (record { its-number = refl; its-span = refl; its-message = refl })

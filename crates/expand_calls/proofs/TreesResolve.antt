@@ -42,6 +42,7 @@ pub record Settled (R : Reads) (reg : Registry) : Type 0 where
   pub indexed : Indexed (R .registry) (R .definitions) (R .places) (reg .defs)
   pub ended : Ended (R .registry) (R .definitions) (R .places) (reg .defs)
   pub its-limit : R .limit ≡ reg .limit
+  pub its-file : R .file ≡ reg .file
   pub few-params : All (λ (d : MacroDef). length (d .params) ≤ 16) (reg .defs)
   pub shallow : All (λ (d : MacroDef). deepBody nodeWeight (d .body) ≤ 64) (reg .defs)
 
@@ -58,13 +59,14 @@ each-shallow (d ∷ ds) h = all-cons {a = d} (omega arith) (each-shallow ds (ome
 
 pub settled-of : {R : Reads} {reg : Registry} → Alone registryRoot (R .registry) (R .definitions) (reg .defs)
     → Indexed (R .registry) (R .definitions) (R .places) (reg .defs) → Ended (R .registry) (R .definitions) (R .places) (reg .defs)
-    → R .limit ≡ reg .limit → Settled R reg
+    → R .limit ≡ reg .limit → R .file ≡ reg .file → Settled R reg
 unfolding registryRoot
-settled-of {reg = reg} h indexed ended limit =
+settled-of {reg = reg} h indexed ended limit file =
     record {
       indexed = indexed;
       ended = ended;
       its-limit = limit;
+      its-file = file;
       few-params = each-few (reg .defs) (h .few);
       shallow = each-shallow (reg .defs) (nesting-64 (deepBodies nodeWeight (reg .defs)) (deepBodies callWeight (reg .defs)) (h .depths));
     }

@@ -89,9 +89,9 @@ unfoldable pub above : Writer → Writer
 above out = record { base = pick (leb (out .base) 65536) (out .base + 12288) (out .base); n = 0; t = 0; overflowed = false }
 
 -- the call in the work buffer is substituted into the area at the start of the result buffer
-unfoldable pub applyIn : List ℕ → Layout → ℕ → List ℕ → Macro → Heading → State → List ℕ → one.Progress
-applyIn reg d limit work def call filled result =
-    callIn reg d work (areaLayout (filled .out .base) (filled .out .n) (filled .out .t)) limit def call
+unfoldable pub applyIn : List ℕ → Layout → (limit file : ℕ) → List ℕ → Macro → Heading → State → List ℕ → one.Progress
+applyIn reg d limit file work def call filled result =
+    callIn reg d work (areaLayout (filled .out .base) (filled .out .n) (filled .out .t)) limit file def call
     (record { at = 3; text = call .name .size }) (filled .charged) (emptyAt 0) result
 
 -- the outcome, behind what its level holds already
@@ -105,7 +105,7 @@ unfoldable pub intoIn : Writer → Place → List ℕ → one.Progress → Progr
 intoIn out next work Y = onMade out next work (Y .bytes) (Y .walk)
 
 -- 3 if the call with its expanded arguments is too large; then the substitution
-unfoldable pub outcomeIn : List ℕ → Layout → ℕ → Macro → Heading → Writer → Progress → Progress
-outcomeIn reg d limit def call out X =
-    after (λ filled work result. intoIn out (filled .place) work (applyIn reg d limit work def call filled result))
+unfoldable pub outcomeIn : List ℕ → Layout → (limit file : ℕ) → Macro → Heading → Writer → Progress → Progress
+outcomeIn reg d limit file def call out X =
+    after (λ filled work result. intoIn out (filled .place) work (applyIn reg d limit file work def call filled result))
     (onWork (refuseTooLargeIn (call .span) grammar.call) X)

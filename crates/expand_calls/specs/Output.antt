@@ -23,8 +23,8 @@ use Rattle.walk_state.specs.declared.writing.Walk.the-variants as walk
 use Rattle.walk_state.specs.Reading.{passedIn}
 use Rattle.expand_calls.specs.declared.output.Context.{Context}
 
--- what an expansion reads: the registry's tape, where its definitions stand, the condition's tape, how the two are laid out, and the
--- budget's limit
+-- what an expansion reads: the registry's tape, where its definitions stand, the condition's tape, how the two are laid out, the
+-- budget's limit, and the file number
 pub record Reads : Type 0 where
   pub registry : List ℕ
   pub places : List Row
@@ -32,6 +32,7 @@ pub record Reads : Type 0 where
   pub definitions : Layout
   pub layout : Layout
   pub limit : ℕ
+  pub file : ℕ
 
 -- the table has two numbers for each definition
 abbrev pub reads : List ℕ → List ℕ → List ℕ → Context → Reads
@@ -43,6 +44,7 @@ reads registry table condition x =
       definitions = x .registry;
       layout = x .condition;
       limit = x .limit;
+      file = x .file;
     }
 
 -- ------------------------------------------------------------------ a walk and its output

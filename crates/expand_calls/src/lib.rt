@@ -130,7 +130,7 @@ fn apply<'a>(
     call: Heading,
     filled: State,
 ) -> Walk
-    ensures { λ r. ⌜ one.progress r (now (result .exit)) ≡ applyIn (now (reg .entry)) (x .registry) (x .limit) (now (work .entry)) def call filled (now (result .entry)) ⌝ }
+    ensures { λ r. ⌜ one.progress r (now (result .exit)) ≡ applyIn (now (reg .entry)) (x .registry) (x .limit) (x .file) (now (work .entry)) def call filled (now (result .entry)) ⌝ }
 {
     let o = filled.out;
     let first = Place {
@@ -145,6 +145,7 @@ fn apply<'a>(
         work,
         area,
         x.limit,
+        x.file,
         def,
         call,
         first,
@@ -180,7 +181,7 @@ pub fn outcome(
     out: Writer,
     w: Walk,
 ) -> Walk
-    ensures { λ r. ⌜ progress r (now (work .exit)) (now (result .exit)) ≡ outcomeIn (now (reg .entry)) (x .registry) (x .limit) def call out (progress w (now (work .entry)) (now (result .entry))) ⌝ }
+    ensures { λ r. ⌜ progress r (now (work .exit)) (now (result .exit)) ≡ outcomeIn (now (reg .entry)) (x .registry) (x .limit) (x .file) def call out (progress w (now (work .entry)) (now (result .entry))) ⌝ }
 {
     let f = refuse_too_large(call.span, CALL, work, w);
     let Walk::Going(filled) = f else {

@@ -19,12 +19,13 @@ ghost use lib.ListN.{getD};
 ghost use Rattle.walk_state.specs.Writing.{progress};
 ghost use Rattle.expand_calls.specs.Output.{copyOwnIn, copyOwnAfterIn, shapeIn, refoldIn};
 
-// The layouts of the registry's tape and of the condition's, the number of definitions, and the budget's limit.
+// The layouts of the registry's tape and of the condition's, the number of definitions, the budget's limit, and the file number.
 pub struct Context {
     pub registry: Layout,
     pub count: usize,
     pub condition: Layout,
     pub limit: u32,
+    pub file: u16,
 }
 
 // Appends the condition's own entries up to the place where a check came; or hands its refusal on.

@@ -118,10 +118,10 @@ module _ {R : Reads} {reg : Registry} (S : Settled R reg) (W : Walkers) {A : Typ
   end = past (flatCall (Call.MacroCall span name args)) p
 
   -- the definition's walk behind the choice of a body
-  abbrev rest : ℕ → MacroDef → A → Walks A
-  rest limit dm b k =
+  abbrev rest : (limit file : ℕ) → MacroDef → A → Walks A
+  rest limit file dm b k =
       proceed (checkArity dm (lengthArgs args) span k)
-      (λ u k₁. proceed (expandTemporalCallArgs reg args k₁) (checked R K span name limit dm b))
+      (λ u k₁. proceed (expandTemporalCallArgs reg args k₁) (checked R K span name limit file dm b))
 
   module _ {P : Area} {es : List Entry} (result : List ℕ) (k : ℕ) (room : Room P (deepCall callWeight (Call.MacroCall span name args)))
       (ready : Ready result) (w : Written P es) where
@@ -157,20 +157,20 @@ module _ {R : Reads} {reg : Registry} (S : Settled R reg) (W : Walkers) {A : Typ
       expanded : lengthArgs args ≡ length (dm .params) → {X : Progress} (o : Outcome CallArgs) → expandTemporalCallArgs reg args k ≡ o
           → WalkMatches R Nothing flatArgs begun own X end o
           → WalkMatches R Also flat P es
-          (outcomeIn (R .registry) (R .definitions) (R .limit) (called dm h (body b)) itsHead (P .out) X) end
-          (proceed o (checked R K span name (R .limit) dm b))
+          (outcomeIn (R .registry) (R .definitions) (R .limit) (R .file) (called dm h (body b)) itsHead (P .out) X) end
+          (proceed o (checked R K span name (R .limit) (R .file) dm b))
       unfolding outcomeIn refuseTooLargeIn openOutcome openFlat
       expanded same o e (refuses work result′ x q) =
           refuses work result′
-          (ap (outcomeIn (R .registry) (R .definitions) (R .limit) (called dm h (body b)) itsHead (P .out)) x) q
+          (ap (outcomeIn (R .registry) (R .definitions) (R .limit) (R .file) (called dm h (body b)) itsHead (P .out)) x) q
       expanded same o e (writes {a = args′} {k = k₁} Q result′ x q a ready′ also) =
           let counts : lengthArgs args′ ≡ lengthArgs args =
           all-of (λ (made : CallArgs). lengthArgs made ≡ lengthArgs args) (same-count reg args k) e in
           let whole : own ++ flatArgs args′ ≡ flatCall (Call.MacroCall span name args′) =
           ap (λ (n : ℕ). headingEntries 54 span name n ++ flatArgs args′) (sym counts) in
           let since = above-trans began a in
-          starting R (ap (outcomeIn (R .registry) (R .definitions) (R .limit) (called dm h (body b)) itsHead (P .out)) x)
-          (outcome R K span name (R .limit) dm b h few stands deep (parts-call span name args i .its-name) (name-size span name args i)
+          starting R (ap (outcomeIn (R .registry) (R .definitions) (R .limit) (R .file) (called dm h (body b)) itsHead (P .out)) x)
+          (outcome R K span name (R .limit) (R .file) dm b h few stands deep (parts-call span name args i .its-name) (name-size span name args i)
           (lengthArgs args) same result′ k₁ args′ counts (rewritten whole q)
           (written-kept (P .out) (next .out .base) (omega (arith, lifted)) (since .size) (since .front) w)
           (above-kept (next .out .base) (omega (arith, lifted)) (since .size) (since .front)) ready′)
@@ -179,7 +179,7 @@ module _ {R : Reads} {reg : Registry} (S : Settled R reg) (W : Walkers) {A : Typ
       counted : (q : Place)
           → WalkMatches R Also flat P es
           (calledIn R W (called dm h (body b)) itsHead (state q (P .out) k) p (past own p) (P .bytes) result) end
-          (rest (R .limit) dm b k)
+          (rest (R .limit) (R .file) dm b k)
       unfolding calledIn copyOwnIn checkArity openOutcome
       counted q =
           let parts = parts-call span name args i .parts in
@@ -188,7 +188,7 @@ module _ {R : Reads} {reg : Registry} (S : Settled R reg) (W : Walkers) {A : Typ
           (expanded (sym (eqb-true (length (dm .params)) (lengthArgs args) e)) (expandTemporalCallArgs reg args k) refl
           (ending R (parts .runs .ends) (right begun own result (past own p) k (parts .runs .first) args-room ready begun-written))))
           (λ e. rw (e, checkArity)
-          (stops R (count-refusal-matches dm span name args (R .limit) (parts-call span name args i .its-name) h i few (R .condition) (R .layout))))
+          (stops R (count-refusal-matches dm span name args (R .limit) (R .file) (parts-call span name args i .its-name) h i few (R .condition) (R .layout))))
 
     -- ---------------------------------------------------------------- which macro it is
 
@@ -199,7 +199,7 @@ module _ {R : Reads} {reg : Registry} (S : Settled R reg) (W : Walkers) {A : Typ
           → Inside (R .registry) (R .definitions) (bodyStart dm h) (flatBody m) → deepBody nodeWeight m ≤ 64
           → WalkMatches R Also flat P es
           (onCallee R W itsHead (state q (P .out) k) p (past own p) (P .bytes) result (c (called dm h m))) end
-          (proceed (g k) (rest (R .limit) dm))
+          (proceed (g k) (rest (R .limit) (R .file) dm))
       unfolding openOutcome
       by-choice dm h few m (chosen b) stands deep = counted dm h few b stands deep q
       by-choice dm h few m (declined same) stands deep = stops R same
@@ -209,22 +209,24 @@ module _ {R : Reads} {reg : Registry} (S : Settled R reg) (W : Walkers) {A : Typ
           onCallee R W itsHead (state q (P .out) k) p (past own p) (P .bytes) result
           (onMacro (refusedCall R itsHead UnknownMacro) (λ def. onKind def (def .kind)) m)
 
-      abbrev resolving : ℕ → Option MacroDef → Outcome A
-      resolving limit o =
+      abbrev resolving : (limit file : ℕ) → Option MacroDef → Outcome A
+      resolving limit file o =
           proceed ((elim o as (λ x. Walks MacroDef) [ some d ↦ pure d | none ↦ refuse 30 span (unknownMacro name) ]) k)
-          (λ dm k₁. proceed (bodyOf (dm .body) k₁) (rest limit dm))
+          (λ dm k₁. proceed (bodyOf (dm .body) k₁) (rest limit file dm))
 
-      by-name : {m : MacroRead} {o : Option MacroDef} → Resolved R m o → WalkMatches R Also flat P es (stepped m) end (resolving (R .limit) o)
+      by-name : {m : MacroRead} {o : Option MacroDef} → Resolved R m o → WalkMatches R Also flat P es (stepped m) end (resolving (R .limit) (R .file) o)
       unfolding openOutcome messageOf
       by-name unresolved =
           stops R (record { its-number = refl; its-span = refl; its-message = ap unknownMacro (parts-call span name args i .spelled) })
       by-name (resolved dm h few deep) =
           by-choice dm h few (dm .body) (choice (dm .body)) (parts-def dm h .parts .runs .second) deep
 
-      call-matches : WalkMatches R Also flat P es (stepped (resolveIn R itsHead)) end (resolving (reg .limit) (get (reg .defs) name))
+      call-matches : WalkMatches R Also flat P es (stepped (resolveIn R itsHead)) end (resolving (reg .limit) (reg .file) (get (reg .defs) name))
       call-matches =
-          subst (λ (limit : ℕ). WalkMatches R Also flat P es (stepped (resolveIn R itsHead)) end (resolving limit (get (reg .defs) name)))
-          (S .its-limit) (by-name (resolves S itsHead (parts-call span name args i .spelled)))
+          subst (λ (file : ℕ). WalkMatches R Also flat P es (stepped (resolveIn R itsHead)) end (resolving (reg .limit) file (get (reg .defs) name)))
+          (S .its-file)
+          (subst (λ (limit : ℕ). WalkMatches R Also flat P es (stepped (resolveIn R itsHead)) end (resolving limit (R .file) (get (reg .defs) name)))
+          (S .its-limit) (by-name (resolves S itsHead (parts-call span name args i .spelled))))
 
 -- ------------------------------------------------------------------ calls in place of a condition, and of a value
 

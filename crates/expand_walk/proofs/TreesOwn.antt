@@ -97,6 +97,7 @@ module _ (R : Reads) where
         «macro_name» = named origin 0;
         «call_span» = 0;
         limit = R .limit;
+        file = R .file;
       })
 
   -- what it gives, the result buffer as it was

@@ -421,7 +421,7 @@ module _ (R : Reads) (W : Walkers) (def : Macro) (call : Heading) (st : State) (
   pub called-walked : {out : Writer} {w : Walk} {bytes : List ℕ} {A X : Progress} → def .head .count ≡ call .count
       → out ≡ above (st .out) → one.progress w bytes ≡ copyOwnIn (R .condition) (R .layout) (state p out (st .charged)) (Passed first) work
       → A ≡ itemsIn (argIn R W) (call .count) (progress w bytes result)
-      → X ≡ outcomeIn (R .registry) (R .definitions) (R .limit) def call (st .out) A → X ≡ calledIn R W def call st p first work result
+      → X ≡ outcomeIn (R .registry) (R .definitions) (R .limit) (R .file) def call (st .out) A → X ≡ calledIn R W def call st p first work result
   unfolding calledIn
   called-walked {w = w} {bytes} h o k a x =
       let start : progress w bytes result ≡ with result (copyOwnIn (R .condition) (R .layout) (state p (above (st .out)) (st .charged)) (Passed first) work) =

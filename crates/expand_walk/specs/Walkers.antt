@@ -153,7 +153,7 @@ module _ (R : Reads) where
     unfoldable pub calledIn : Macro → Heading → State → Place → Place → List ℕ → List ℕ → Progress
     calledIn def call st p first work result =
         pick (eqb (def .head .count) (call .count))
-        (outcomeIn (R .registry) (R .definitions) (R .limit) def call (st .out)
+        (outcomeIn (R .registry) (R .definitions) (R .limit) (R .file) def call (st .out)
         (itemsIn argIn (call .count) (ownCopied (state p (above (st .out)) (st .charged)) (Passed first) work result)))
         (stop (wrongCount (def .head) call) st work result)
 

@@ -34,39 +34,39 @@ use Rattle.expansion.specs.Expansion.{AnswersExpansion, namedIn}
 use Rattle.expansion.proofs.TreesWhole.{expansion-matches}
 
 -- the walk leaves the two buffers as long as they were
-pub answered : (m limit : ℕ) (registry input : List ℕ) (d c : Layout) {a : Answer} {w : Walk} (work result bytes final : List ℕ)
-    → length bytes ≡ length work → length final ≡ length result → progress w bytes final ≡ namedIn registry d 255 input c limit work result
+pub answered : (m limit file : ℕ) (registry input : List ℕ) (d c : Layout) {a : Answer} {w : Walk} (work result bytes final : List ℕ)
+    → length bytes ≡ length work → length final ≡ length result → progress w bytes final ≡ namedIn registry d 255 input c limit file work result
     → AnswersOutcome registry d input c w bytes (buffers (length final) (length bytes) m) a
-    → AnswersExpansion registry d input c limit work result (buffers (length result) (length work) m) a
-answered m limit registry input d c {a} {w} work result bytes final kept held walked k =
+    → AnswersExpansion registry d input c limit file work result (buffers (length result) (length work) m) a
+answered m limit file registry input d c {a} {w} work result bytes final kept held walked k =
     let there = subst (λ (n : ℕ). AnswersOutcome registry d input c w bytes (buffers n (length bytes) m) a) held k in
     rw (← walked) (subst (λ (n : ℕ). AnswersOutcome registry d input c w bytes (buffers (length result) n m) a) kept there)
 
 -- the walk went over the rewritten tapes
-pub answered-rewritten : (limit : ℕ) (registry input zeros : List ℕ) (d c : Layout) {e f : Layout} {first second : List ℕ} (work result : List ℕ) (b : Buffers)
+pub answered-rewritten : (limit file : ℕ) (registry input zeros : List ℕ) (d c : Layout) {e f : Layout} {first second : List ℕ} (work result : List ℕ) (b : Buffers)
     {a : Answer} → (e ≡ rewrittenLayout registry d) × (first ≡ rewrittenIn registry d zeros)
-    → (f ≡ rewrittenLayout input c) × (second ≡ rewrittenIn input c zeros) → AnswersExpansion first e second f limit work result b a
-    → AnswersExpansion (rewrittenIn registry d zeros) (rewrittenLayout registry d) (rewrittenIn input c zeros) (rewrittenLayout input c) limit work result b a
-answered-rewritten limit registry input zeros d c work result b p q k = rw (← (p .0), ← (p .1), ← (q .0), ← (q .1)) k
+    → (f ≡ rewrittenLayout input c) × (second ≡ rewrittenIn input c zeros) → AnswersExpansion first e second f limit file work result b a
+    → AnswersExpansion (rewrittenIn registry d zeros) (rewrittenLayout registry d) (rewrittenIn input c zeros) (rewrittenLayout input c) limit file work result b a
+answered-rewritten limit file registry input zeros d c work result b p q k = rw (← (p .0), ← (p .1), ← (q .0), ← (q .1)) k
 
 -- what is found of the trees as they were given
-abbrev find : ℕ → List MacroDef → Condition → Outcome Tree
-find limit x y = expand limit (rewritten registryRoot x) (rewritten conditionRoot y)
+abbrev find : (limit file : ℕ) → List MacroDef → Condition → Outcome Tree
+find limit file x y = expand limit file (rewritten registryRoot x) (rewritten conditionRoot y)
 
-module _ (r l m limit : ℕ) (registry input : List ℕ) (p : Bytes registry) (q : Bytes input) where
+module _ (r l m limit file : ℕ) (registry input : List ℕ) (p : Bytes registry) (q : Bytes input) where
   abbrev b : Buffers
   b = buffers r l m
 
-  as-accepted : expandAnswer b limit registry input
-      ≡ treeAnswer b (reading (accept (weighted registryRoot) registry) λ x. reading (accept (weighted conditionRoot) input) λ y. find limit x y)
+  as-accepted : expandAnswer b limit file registry input
+      ≡ treeAnswer b (reading (accept (weighted registryRoot) registry) λ x. reading (accept (weighted conditionRoot) input) λ y. find limit file x y)
   unfolding expandAnswer expandTapes
   as-accepted =
-      ap (treeAnswer b) (read-two rewrites-registry rewrites-condition lawful-registry lawful-condition registry input p q (expand limit))
+      ap (treeAnswer b) (read-two rewrites-registry rewrites-condition lawful-registry lawful-condition registry input p q (expand limit file))
 
   -- a tape is refused
   pub refused : {n : ℕ} {a : Answer} → longBuffers b ≡ true → acceptTwo registry grammar.definitions input grammar.condition ≡ Refused n
-      → a ≡ ended b (numberAlone n) → a ≡ expandAnswer b limit registry input
-  refused long e k = tree-refused registryRoot conditionRoot registry-root condition-root (find limit) b registry input long e k ∙ sym as-accepted
+      → a ≡ ended b (numberAlone n) → a ≡ expandAnswer b limit file registry input
+  refused long e k = tree-refused registryRoot conditionRoot registry-root condition-root (find limit file) b registry input long e k ∙ sym as-accepted
 
   module _ (small : limit < 2 ^ 32) (long : longBuffers b ≡ true) {d c : Layout}
       (e : acceptTwo registry grammar.definitions input grammar.condition ≡ Both d c) (work result : List ℕ) (room : l ≡ length work)
@@ -78,19 +78,19 @@ module _ (r l m limit : ℕ) (registry input : List ℕ) (p : Bytes registry) (q
     second = accepted-root condition-root input q c (second-accepted registry input grammar.definitions grammar.condition e)
 
     walked : {s t : List ℕ} {d′ c′ : Layout} {a : Answer} → Alone registryRoot s d′ (rewritten registryRoot (first .0))
-        → Alone conditionRoot t c′ (rewritten conditionRoot (second .0)) → AnswersExpansion s d′ t c′ limit work result b a
-        → a ≡ expandAnswer b limit registry input
+        → Alone conditionRoot t c′ (rewritten conditionRoot (second .0)) → AnswersExpansion s d′ t c′ limit file work result b a
+        → a ≡ expandAnswer b limit file registry input
     walked {s} {t} {d′} {c′} h g k =
-        let X = namedIn s d′ 255 t c′ limit work result in
-        let matches = expansion-matches limit (rewritten registryRoot (first .0)) (rewritten conditionRoot (second .0)) h g work result
+        let X = namedIn s d′ 255 t c′ limit file work result in
+        let matches = expansion-matches limit file (rewritten registryRoot (first .0)) (rewritten conditionRoot (second .0)) h g work result
         (omega (arith, room, long-enough b long .work)) (omega (arith, space, long-enough b long .result)) in
-        tree-walked registryRoot conditionRoot registry-root condition-root (find limit) b registry input s t d′ c′ (X .walk) (X .work) long (first .1 .reading) (second .1 .reading)
-        (subst (λ (z : Answer). z .messageLength ≤ 2048) as-accepted (expand-bounded b limit small registry input p q .short-message)) matches k
+        tree-walked registryRoot conditionRoot registry-root condition-root (find limit file) b registry input s t d′ c′ (X .walk) (X .work) long (first .1 .reading) (second .1 .reading)
+        (subst (λ (z : Answer). z .messageLength ≤ 2048) as-accepted (expand-bounded b limit file small registry input p q .short-message)) matches k
         ∙ sym as-accepted
 
     -- no tape has an Or
-    pub expanded : {a : Answer} → (eqb (orsIn registry d) 0 && eqb (orsIn input c) 0) ≡ true → AnswersExpansion registry d input c limit work result b a
-        → a ≡ expandAnswer b limit registry input
+    pub expanded : {a : Answer} → (eqb (orsIn registry d) 0 && eqb (orsIn input c) 0) ≡ true → AnswersExpansion registry d input c limit file work result b a
+        → a ≡ expandAnswer b limit file registry input
     expanded none k =
         let t = from-true none in
         let one = eqb (orsIn registry d) 0 in
@@ -100,8 +100,8 @@ module _ (r l m limit : ℕ) (registry input : List ℕ) (p : Bytes registry) (q
 
     pub expanded-rewritten : {a : Answer} →
         AnswersExpansion (rewrittenIn registry d (replicate 12296 0)) (rewrittenLayout registry d) (rewrittenIn input c (replicate 12296 0))
-        (rewrittenLayout input c) limit work result b a
-        → a ≡ expandAnswer b limit registry input
+        (rewrittenLayout input c) limit file work result b a
+        → a ≡ expandAnswer b limit file registry input
     expanded-rewritten k =
         walked
         (rewritten-alone registry-root rewrites-registry (first .1) (replicate 12296 0) (omega (arith, length-replicate {A = ℕ} 12296 0)))

@@ -28,14 +28,14 @@ whole-walked R work result {final = final} e x f =
     ap (with final) f
     ∙ ap (onWork (refuseTooLargeIn 0 grammar.condition)) (x ∙ ap (λ (o : Writer). walkers R 64 .condition (progress (walk.Going (state origin o 0)) work result)) e)
 
-module _ (reg : List ℕ) (d : Layout) (room : ℕ) (cond : List ℕ) (c : Layout) (limit : ℕ) (work result : List ℕ) {rs : List Row}
+module _ (reg : List ℕ) (d : Layout) (room : ℕ) (cond : List ℕ) (c : Layout) (limit file : ℕ) (work result : List ℕ) {rs : List Row}
     (i : rs ≡ indexAt reg d room) {v : Verdict} (b : v ≡ buildAt reg d rs) where
-  pub named-walked : {X : Progress} → v ≡ verdict.Passes → X ≡ wholeIn (readsOf reg d rs cond c limit) work result
-      → X ≡ namedIn reg d room cond c limit work result
+  pub named-walked : {X : Progress} → v ≡ verdict.Passes → X ≡ wholeIn (readsOf reg d rs cond c limit file) work result
+      → X ≡ namedIn reg d room cond c limit file work result
   unfolding namedIn
   named-walked e x = rw (← i, ← b, e) x
 
   pub named-refused : {f : Refused} → v ≡ verdict.Refused f
-      → progress (walk.Refused f 0) work result ≡ namedIn reg d room cond c limit work result
+      → progress (walk.Refused f 0) work result ≡ namedIn reg d room cond c limit file work result
   unfolding namedIn
   named-refused e = rw (← i, ← b, e)

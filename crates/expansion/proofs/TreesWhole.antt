@@ -150,15 +150,15 @@ module _ (R : Reads) where
       },
     )
 
-pub expansion-matches : (limit : ℕ) {reg cond : List ℕ} {d c : Layout} (defs : List MacroDef) (t : Condition) → Alone registryRoot reg d defs
+pub expansion-matches : (limit file : ℕ) {reg cond : List ℕ} {d c : Layout} (defs : List MacroDef) (t : Condition) → Alone registryRoot reg d defs
     → Alone conditionRoot cond c t
     → (work result : List ℕ) → 65536 ≤ length work → 12288 ≤ length result
-    → let X : Progress = namedIn reg d 255 cond c limit work result in OutcomeMatches reg d cond c (X .walk) (X .work) (expand limit defs t)
+    → let X : Progress = namedIn reg d 255 cond c limit file work result in OutcomeMatches reg d cond c (X .walk) (X .work) (expand limit file defs t)
 unfolding registryRoot conditionRoot namedIn expand buildAt
-expansion-matches limit {reg} {cond} {d} {c} defs t h g work result room ready =
+expansion-matches limit file {reg} {cond} {d} {c} defs t h g work result room ready =
     let indexed = indexed-registry defs h in
-    judged (readsOf reg d (indexAt reg d 255) cond c limit) (record { defs = defs; limit = limit })
-    (settled-of h indexed (ended-registry defs h) refl) t
+    judged (readsOf reg d (indexAt reg d 255) cond c limit file) (record { defs = defs; limit = limit; file = file })
+    (settled-of h indexed (ended-registry defs h) refl refl) t
     (g .inside) (nesting-64 (deepCondition nodeWeight t) (deepCondition callWeight t) (g .depths))
     (calls-4 (deepCondition nodeWeight t) (deepCondition callWeight t) (g .depths)) work result room ready
     (buildAt reg d (indexAt reg d 255)) (build defs) (build-matches indexed) (own-build reg d [] (indexAt reg d 255))

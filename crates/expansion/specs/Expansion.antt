@@ -25,17 +25,17 @@ abbrev pub onVerdict : Progress → List ℕ → List ℕ → Verdict → Progre
 onVerdict X work result verdict.Passes = X
 onVerdict X work result (verdict.Refused f) = progress (walk.Refused f 0) work result
 
-abbrev pub readsOf : List ℕ → Layout → List Row → List ℕ → Layout → ℕ → Reads
-readsOf reg d rs cond c limit =
-    record { registry = reg; places = rs; condition = cond; definitions = d; layout = c; limit = limit }
+abbrev pub readsOf : List ℕ → Layout → List Row → List ℕ → Layout → (limit file : ℕ) → Reads
+readsOf reg d rs cond c limit file =
+    record { registry = reg; places = rs; condition = cond; definitions = d; layout = c; limit = limit; file = file }
 
 -- 10 and 11, in a table that has room for so many definitions; then the walk
-unfoldable pub namedIn : List ℕ → Layout → ℕ → List ℕ → Layout → ℕ → List ℕ → List ℕ → Progress
-namedIn reg d room cond c limit work result =
+unfoldable pub namedIn : List ℕ → Layout → (room : ℕ) → List ℕ → Layout → (limit file : ℕ) → List ℕ → List ℕ → Progress
+namedIn reg d room cond c limit file work result =
     let rs : List Row = indexAt reg d room in
-    onVerdict (wholeIn (readsOf reg d rs cond c limit) work result) work result (buildAt reg d rs)
+    onVerdict (wholeIn (readsOf reg d rs cond c limit file) work result) work result (buildAt reg d rs)
 
 -- a is the answer of every outcome that matches the walk over the two tapes, which were given, or rewritten
-abbrev pub AnswersExpansion : List ℕ → Layout → List ℕ → Layout → ℕ → (work result : List ℕ) → Buffers → Answer → Type 0
-AnswersExpansion reg d cond c limit work result b a =
-    let X = namedIn reg d 255 cond c limit work result in AnswersOutcome reg d cond c (X .walk) (X .work) b a
+abbrev pub AnswersExpansion : List ℕ → Layout → List ℕ → Layout → (limit file : ℕ) → (work result : List ℕ) → Buffers → Answer → Type 0
+AnswersExpansion reg d cond c limit file work result b a =
+    let X = namedIn reg d 255 cond c limit file work result in AnswersOutcome reg d cond c (X .walk) (X .work) b a

@@ -58,10 +58,11 @@ fn expand_named(
     cond: &[u8],
     c: Layout,
     limit: u32,
+    file: u16,
     work: &mut [u8],
     result: &mut [u8],
 ) -> Walk
-    ensures { λ r. ⌜ progress r (now (work .exit)) (now (result .exit)) ≡ namedIn (now (reg .entry)) d (length (now (places .entry)) / 2) (now (cond .entry)) c limit (now (work .entry)) (now (result .entry)) ⌝ }
+    ensures { λ r. ⌜ progress r (now (work .exit)) (now (result .exit)) ≡ namedIn (now (reg .entry)) d (length (now (places .entry)) / 2) (now (cond .entry)) c limit file (now (work .entry)) (now (result .entry)) ⌝ }
 {
     let count = index(reg, d, places);
     match check_names(reg, d, places, count) {
@@ -71,6 +72,7 @@ fn expand_named(
                 count,
                 condition: c,
                 limit,
+                file,
             };
             expand_whole(reg, places, cond, work, result, x)
         }
@@ -85,13 +87,14 @@ fn expand_tapes(
     cond: &[u8],
     c: Layout,
     limit: u32,
+    file: u16,
     work: &mut [u8],
     result: &mut [u8],
 ) -> Walk
-    ensures { λ r. ⌜ progress r (now (work .exit)) (now (result .exit)) ≡ namedIn (now (reg .entry)) d 255 (now (cond .entry)) c limit (now (work .entry)) (now (result .entry)) ⌝ }
+    ensures { λ r. ⌜ progress r (now (work .exit)) (now (result .exit)) ≡ namedIn (now (reg .entry)) d 255 (now (cond .entry)) c limit file (now (work .entry)) (now (result .entry)) ⌝ }
 {
     let mut places = [0usize; 510];
-    expand_named(reg, d, &mut places, cond, c, limit, work, result)
+    expand_named(reg, d, &mut places, cond, c, limit, file, work, result)
 }
 
 // The walk over two tapes, and its answer.
@@ -101,13 +104,14 @@ fn expand_in<'a>(
     condition: &'a [u8],
     c: Layout,
     limit: u32,
+    file: u16,
     result: &mut [u8],
     work: &mut [u8],
     message: &mut [u8],
 ) -> Answer
-    ensures { λ r. ⌜ AnswersExpansion (now (registry .entry)) d (now (condition .entry)) c limit (now (work .entry)) (now (result .entry)) (buffers (length (now (result .entry))) (length (now (work .entry))) (length (now (message .entry)))) (answerWith r (now (result .exit)) (now (work .exit)) (now (message .exit))) ⌝ }
+    ensures { λ r. ⌜ AnswersExpansion (now (registry .entry)) d (now (condition .entry)) c limit file (now (work .entry)) (now (result .entry)) (buffers (length (now (result .entry))) (length (now (work .entry))) (length (now (message .entry)))) (answerWith r (now (result .exit)) (now (work .exit)) (now (message .exit))) ⌝ }
 {
-    let w = expand_tapes(registry, d, condition, c, limit, work, result);
+    let w = expand_tapes(registry, d, condition, c, limit, file, work, result);
     answer_walk(registry, d, condition, c, w, result, work, message)
 }
 
@@ -118,40 +122,43 @@ fn expand_rewritten(
     condition: &[u8],
     c: Layout,
     limit: u32,
+    file: u16,
     result: &mut [u8],
     work: &mut [u8],
     message: &mut [u8],
 ) -> Answer
-    ensures { λ r. ⌜ AnswersExpansion (rewrittenIn (now (registry .entry)) d (replicate 12296 0)) (rewrittenLayout (now (registry .entry)) d) (rewrittenIn (now (condition .entry)) c (replicate 12296 0)) (rewrittenLayout (now (condition .entry)) c) limit (now (work .entry)) (now (result .entry)) (buffers (length (now (result .entry))) (length (now (work .entry))) (length (now (message .entry)))) (answerWith r (now (result .exit)) (now (work .exit)) (now (message .exit))) ⌝ }
+    ensures { λ r. ⌜ AnswersExpansion (rewrittenIn (now (registry .entry)) d (replicate 12296 0)) (rewrittenLayout (now (registry .entry)) d) (rewrittenIn (now (condition .entry)) c (replicate 12296 0)) (rewrittenLayout (now (condition .entry)) c) limit file (now (work .entry)) (now (result .entry)) (buffers (length (now (result .entry))) (length (now (work .entry))) (length (now (message .entry)))) (answerWith r (now (result .exit)) (now (work .exit)) (now (message .exit))) ⌝ }
 {
     let mut first = [0u8; 12296];
     let mut second = [0u8; 12296];
     let e = rewrite(registry, d, &mut first);
     let f = rewrite(condition, c, &mut second);
-    expand_in(&first, e, &second, f, limit, result, work, message)
+    expand_in(&first, e, &second, f, limit, file, result, work, message)
 }
 
-// The operation: the answer and every byte of the three buffers are what the definition says, for every input and every buffer.
+// The operation on a registry and a condition, `input`: the answer and every byte of the three buffers are what the definition says,
+// for every input and every buffer.
 pub fn expand<'a>(
     registry: &'a [u8],
-    condition: &'a [u8],
+    input: &'a [u8],
     limit: u32,
+    file: u16,
     result: &mut [u8],
     work: &mut [u8],
     message: &mut [u8],
 ) -> Answer
-    ensures { λ r. ⌜ answerWith r (now (result .exit)) (now (work .exit)) (now (message .exit)) ≡ expandAnswer (buffers (length (now (result .entry))) (length (now (work .entry))) (length (now (message .entry)))) limit (now (registry .entry)) (now (condition .entry)) ⌝ }
+    ensures { λ r. ⌜ answerWith r (now (result .exit)) (now (work .exit)) (now (message .exit)) ≡ expandAnswer (buffers (length (now (result .entry))) (length (now (work .entry))) (length (now (message .entry)))) limit file (now (registry .entry)) (now (input .entry)) ⌝ }
 {
     if !long_buffers(result.len(), work.len(), message.len()) {
         return number_alone(1, 0, result, work, message);
     }
-    let accepted = accept_two(registry, DEFINITIONS, condition, CONDITION);
+    let accepted = accept_two(registry, DEFINITIONS, input, CONDITION);
     match accepted {
         Accepted::Both(d, c) => {
-            if without_or(registry, d, condition, c) {
-                expand_in(registry, d, condition, c, limit, result, work, message)
+            if without_or(registry, d, input, c) {
+                expand_in(registry, d, input, c, limit, file, result, work, message)
             } else {
-                expand_rewritten(registry, d, condition, c, limit, result, work, message)
+                expand_rewritten(registry, d, input, c, limit, file, result, work, message)
             }
         }
         Accepted::Refused(n) => number_alone(n, 0, result, work, message),

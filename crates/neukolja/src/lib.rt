@@ -41,15 +41,16 @@ pub extern "C" fn neukolja_substitute<'a>(
     definition: &'a [u8],
     call: &'a [u8],
     limit: u32,
+    file: u16,
     result: &mut [u8],
     work: &mut [u8],
     message: &mut [u8],
     answer: &mut [u64; 5],
 )
-    ensures { λ _. ⌜ wordsWith (now (answer .exit)) (now (result .exit)) (now (work .exit)) (now (message .exit)) ≡ substituteAnswer (buffers (length (now (result .entry))) (length (now (work .entry))) (length (now (message .entry)))) limit (now (definition .entry)) (now (call .entry)) ⌝ }
+    ensures { λ _. ⌜ wordsWith (now (answer .exit)) (now (result .exit)) (now (work .exit)) (now (message .exit)) ≡ substituteAnswer (buffers (length (now (result .entry))) (length (now (work .entry))) (length (now (message .entry)))) limit file (now (definition .entry)) (now (call .entry)) ⌝ }
 {
     write_words(
-        substitution::substitute(definition, call, limit, result, work, message),
+        substitution::substitute(definition, call, limit, file, result, work, message),
         answer,
     );
 }
@@ -59,15 +60,16 @@ pub extern "C" fn neukolja_expand<'a>(
     registry: &'a [u8],
     condition: &'a [u8],
     limit: u32,
+    file: u16,
     result: &mut [u8],
     work: &mut [u8],
     message: &mut [u8],
     answer: &mut [u64; 5],
 )
-    ensures { λ _. ⌜ wordsWith (now (answer .exit)) (now (result .exit)) (now (work .exit)) (now (message .exit)) ≡ expandAnswer (buffers (length (now (result .entry))) (length (now (work .entry))) (length (now (message .entry)))) limit (now (registry .entry)) (now (condition .entry)) ⌝ }
+    ensures { λ _. ⌜ wordsWith (now (answer .exit)) (now (result .exit)) (now (work .exit)) (now (message .exit)) ≡ expandAnswer (buffers (length (now (result .entry))) (length (now (work .entry))) (length (now (message .entry)))) limit file (now (registry .entry)) (now (condition .entry)) ⌝ }
 {
     write_words(
-        expansion::expand(registry, condition, limit, result, work, message),
+        expansion::expand(registry, condition, limit, file, result, work, message),
         answer,
     );
 }

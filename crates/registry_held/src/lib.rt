@@ -94,11 +94,12 @@ pub fn expand<'a>(
     r: Registry<'a>,
     condition: &'a [u8],
     limit: u32,
+    file: u16,
     result: &mut [u8],
     work: &mut [u8],
     message: &mut [u8],
 ) -> Answer
-    ensures { λ a. ⌜ answerWith a (now (result .exit)) (now (work .exit)) (now (message .exit)) ≡ expandAnswer (buffers (length (now (result .entry))) (length (now (work .entry))) (length (now (message .entry)))) limit (now (r .entry .tape)) (now (condition .entry)) ⌝ }
+    ensures { λ a. ⌜ answerWith a (now (result .exit)) (now (work .exit)) (now (message .exit)) ≡ expandAnswer (buffers (length (now (result .entry))) (length (now (work .entry))) (length (now (message .entry)))) limit file (now (r .entry .tape)) (now (condition .entry)) ⌝ }
 {
-    expansion::expand(r.tape, condition, limit, result, work, message)
+    expansion::expand(r.tape, condition, limit, file, result, work, message)
 }

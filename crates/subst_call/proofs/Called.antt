@@ -57,30 +57,30 @@ module _ (span sort : ℕ) (bytes : List ℕ) {w : Walk} {st : State} (p : w ≡
 
 -- ------------------------------------------------------------------ the two tapes
 
-module _ (def : List ℕ) (d : Layout) (call : List ℕ) (c : Layout) (limit : ℕ) (bytes : List ℕ) {m : MacroRead} (p : m ≡ macroAt def d origin)
+module _ (def : List ℕ) (d : Layout) (call : List ℕ) (c : Layout) (limit file : ℕ) (bytes : List ℕ) {m : MacroRead} (p : m ≡ macroAt def d origin)
   where
-    pub unread-macro : {r : Walk} → m ≡ macro.Nothing → r ≡ withoutMessageAt 2 0 0 → progress r bytes ≡ tapesIn def d call c limit bytes
+    pub unread-macro : {r : Walk} → m ≡ macro.Nothing → r ≡ withoutMessageAt 2 0 0 → progress r bytes ≡ tapesIn def d call c limit file bytes
     unfolding tapesIn
     unread-macro e z = rw (← p, e, z)
 
     module _ {called : Macro} (e : m ≡ macro.Macro called) {h : HeadingRead} (q : h ≡ headingAt call c origin 54) where
-      pub unread-call : {f : Refusal} {r : Walk} → h ≡ hr.Refused f → r ≡ withoutMessageAt 2 0 0 → progress r bytes ≡ tapesIn def d call c limit bytes
+      pub unread-call : {f : Refusal} {r : Walk} → h ≡ hr.Refused f → r ≡ withoutMessageAt 2 0 0 → progress r bytes ≡ tapesIn def d call c limit file bytes
       unfolding tapesIn
       unread-call g z = rw (← p, e, ← q, g, z)
 
       module _ {head : Heading} {first : Place} (g : h ≡ hr.Node head first) where
         by-kind : (k : BodyNode) {X : Progress} → called .kind ≡ k
-            → X ≡ onKind head (countedIn def d call c limit called head first bytes) bytes k → X ≡ tapesIn def d call c limit bytes
+            → X ≡ onKind head (countedIn def d call c limit file called head first bytes) bytes k → X ≡ tapesIn def d call c limit file bytes
         unfolding tapesIn
         by-kind k z x =
-            rw (← p, e, ← q, g) (x ∙ ap (onKind head (countedIn def d call c limit called head first bytes) bytes) (sym z))
+            rw (← p, e, ← q, g) (x ∙ ap (onKind head (countedIn def d call c limit file called head first bytes) bytes) (sym z))
 
-        pub kind-cedar : {r : Walk} → called .kind ≡ body.Cedar → r ≡ cedarAt head → progress r bytes ≡ tapesIn def d call c limit bytes
+        pub kind-cedar : {r : Walk} → called .kind ≡ body.Cedar → r ≡ cedarAt head → progress r bytes ≡ tapesIn def d call c limit file bytes
         kind-cedar z x = by-kind body.Cedar z (ap (λ (w : Walk). progress w bytes) x)
 
-        module _ {X : Progress} (x : X ≡ countedIn def d call c limit called head first bytes) where
-          pub kind-condition : called .kind ≡ body.Condition → X ≡ tapesIn def d call c limit bytes
+        module _ {X : Progress} (x : X ≡ countedIn def d call c limit file called head first bytes) where
+          pub kind-condition : called .kind ≡ body.Condition → X ≡ tapesIn def d call c limit file bytes
           kind-condition z = by-kind body.Condition z x
 
-          pub kind-value : called .kind ≡ body.Value → X ≡ tapesIn def d call c limit bytes
+          pub kind-value : called .kind ≡ body.Value → X ≡ tapesIn def d call c limit file bytes
           kind-value z = by-kind body.Value z x

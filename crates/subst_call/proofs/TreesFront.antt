@@ -214,7 +214,7 @@ module _ (dm : MacroDef) {def : List ℕ} {l : Layout} {p : Place} (h : Inside d
   macro-at e = rw (parts-def dm h .parts .read) (macro-from e)
 
 -- The head may have its name elsewhere: expansion's stands on the condition's tape, and the call in the work buffer.
-module _ (dm : MacroDef) (span : ℕ) (name : Text) (args : CallArgs) (limit : ℕ) (located : Name) {def call : List ℕ} {l c : Layout}
+module _ (dm : MacroDef) (span : ℕ) (name : Text) (args : CallArgs) (limit file : ℕ) (located : Name) {def call : List ℕ} {l c : Layout}
     {p q : Place} (h : Inside def l p (flatDef dm)) (g : Inside call c q (flatCall (Call.MacroCall span name args))) where
   abbrev pub callHead : Heading
   callHead = record { span = span; name = located; count = lengthArgs args }
@@ -223,21 +223,21 @@ module _ (dm : MacroDef) (span : ℕ) (name : Text) (args : CallArgs) (limit : �
   first = past (headingEntries 54 span name (lengthArgs args)) q
 
   abbrev pub T : Tapes
-  T = tapes def call (tableOf call c callHead first) (mapsFor l c limit (called dm h (dm .body)) callHead)
+  T = tapes def call (tableOf call c callHead first) (mapsFor l c limit file (called dm h (dm .body)) callHead)
 
   abbrev pub maps : SubstMaps
-  maps = mapsOf dm limit (Call.MacroCall span name args)
+  maps = mapsOf dm limit file (Call.MacroCall span name args)
 
   module _ (same : lengthArgs args ≡ length (dm .params)) (few : length (dm .params) ≤ 16) where
     its-bound : Bound T maps
-    its-bound = bound-of dm span name args limit (replicate 96 0) h g same
+    its-bound = bound-of dm span name args limit file (replicate 96 0) h g same
         (let z : length {A = ℕ} (replicate 96 0) ≡ 96 = refl in omega arith)
 
     -- what a call becomes: the body's charge, the walk, and 3
     pub call-condition : (b : Condition) (k : ℕ) {P : Area} → Inside def l (bodyStart dm h) (flatBody (MacroBody.TemporalCondition b))
         → deepCondition nodeWeight b ≤ 64 → Written P []
         → WalkMatches T flatCondition P []
-        (callIn def l call c limit (called dm h (MacroBody.TemporalCondition b)) callHead first k (P .out) (P .bytes))
+        (callIn def l call c limit file (called dm h (MacroBody.TemporalCondition b)) callHead first k (P .out) (P .bytes))
         (past (flatBody (MacroBody.TemporalCondition b)) (bodyStart dm h))
         (proceed (chargeBody limit (MacroBody.TemporalCondition b) span k) (λ u. substituteTemporalCondition b maps))
     unfolding callIn substituteBodyIn temporalConditionIn refuseTooLargeIn chargeBody bodySize mapsOf flatBody past
@@ -251,7 +251,7 @@ module _ (dm : MacroDef) (span : ℕ) (name : Text) (args : CallArgs) (limit : �
     pub call-value : (b : Term) (k : ℕ) {P : Area} → Inside def l (bodyStart dm h) (flatBody (MacroBody.TemporalValue b))
         → deepTerm nodeWeight b ≤ 64 → Written P []
         → WalkMatches T flatTerm P []
-        (callIn def l call c limit (called dm h (MacroBody.TemporalValue b)) callHead first k (P .out) (P .bytes))
+        (callIn def l call c limit file (called dm h (MacroBody.TemporalValue b)) callHead first k (P .out) (P .bytes))
         (past (flatBody (MacroBody.TemporalValue b)) (bodyStart dm h))
         (proceed (chargeBody limit (MacroBody.TemporalValue b) span k) (λ u. substituteTemporalValue b maps))
     unfolding callIn substituteBodyIn temporalValueIn refuseTooLargeIn chargeBody bodySize mapsOf flatBody past
@@ -276,8 +276,8 @@ module _ (dm : MacroDef) (span : ℕ) (name : Text) (args : CallArgs) (limit : �
   module _ (few : length (dm .params) ≤ 16) (bytes : List ℕ) (w : Written (areaIn (emptyAt 0) bytes) []) where
     counted-matches : (b : MacroBody) → b ≢ MacroBody.Cedar → Inside def l (bodyStart dm h) (flatBody b) → deepBody nodeWeight b ≤ 64
         → WalkMatches T flatTree (areaIn (emptyAt 0) bytes) []
-        (onKind callHead (countedIn def l call c limit (called dm h b) callHead first bytes) bytes (kindOf b))
-        (past (flatBody b) (bodyStart dm h)) (substituteBody limit dm b (Call.MacroCall span name args) 0)
+        (onKind callHead (countedIn def l call c limit file (called dm h b) callHead first bytes) bytes (kindOf b))
+        (past (flatBody b) (bodyStart dm h)) (substituteBody limit file dm b (Call.MacroCall span name args) 0)
     unfolding substituteBody checkArity countedIn openOutcome deepBody flatTree
     counted-matches MacroBody.Cedar n i d = absurd (n refl)
     counted-matches (MacroBody.TemporalCondition b) n i d =
@@ -297,7 +297,7 @@ module _ (dm : MacroDef) (span : ℕ) (name : Text) (args : CallArgs) (limit : �
 
 -- ------------------------------------------------------------------ the two tapes
 
-module _ (dm : MacroDef) (span : ℕ) (name : Text) (args : CallArgs) (limit : ℕ) {def call : List ℕ} {l c : Layout}
+module _ (dm : MacroDef) (span : ℕ) (name : Text) (args : CallArgs) (limit file : ℕ) {def call : List ℕ} {l c : Layout}
     (h : Inside def l origin (flatDef dm)) (g : Inside call c origin (flatCall (Call.MacroCall span name args)))
     (whole : l .entries ≡ length (flatDef dm)) where
   its-end : l .entries ≡ past (flatDef dm) origin .at
@@ -308,11 +308,11 @@ module _ (dm : MacroDef) (span : ℕ) (name : Text) (args : CallArgs) (limit : �
 
   -- 31 alone names the call's tape
   pub tapes-cedar : (bytes : List ℕ) → dm .body ≡ MacroBody.Cedar
-      → tapesIn def l call c limit bytes ≡ progress (cedarAt (callHead dm span name args limit itsName h g)) bytes
+      → tapesIn def l call c limit file bytes ≡ progress (cedarAt (callHead dm span name args limit file itsName h g)) bytes
   unfolding tapesIn
   tapes-cedar bytes e =
-      let head = callHead dm span name args limit itsName h g in
-      let X = countedIn def l call c limit (called dm h (dm .body)) head (first dm span name args limit itsName h g) bytes in
+      let head = callHead dm span name args limit file itsName h g in
+      let X = countedIn def l call c limit file (called dm h (dm .body)) head (first dm span name args limit file itsName h g) bytes in
       rw (macro-at dm h its-end, parts-call span name args g .parts .read) (ap (λ (b : MacroBody). onKind head X bytes (kindOf b)) e)
 
   pub cedar-refusal-matches : RefusalMatches def l call c (refusedAt span (CedarInCondition itsName)) (refusal 31 span (cedarInCondition name))
@@ -322,10 +322,10 @@ module _ (dm : MacroDef) (span : ℕ) (name : Text) (args : CallArgs) (limit : �
   -- "one definition and one call, names not compared, arguments as given"; nothing is charged before it
   pub tapes-matches : dm .body ≢ MacroBody.Cedar → length (dm .params) ≤ 16 → deepBody nodeWeight (dm .body) ≤ 64 → (bytes : List ℕ)
       → 12288 ≤ length bytes
-      → WalkMatches (T dm span name args limit itsName h g) flatTree (areaIn (emptyAt 0) bytes) [] (tapesIn def l call c limit bytes)
-      (past (flatBody (dm .body)) (bodyStart dm h)) (substitute limit dm (Call.MacroCall span name args))
+      → WalkMatches (T dm span name args limit file itsName h g) flatTree (areaIn (emptyAt 0) bytes) [] (tapesIn def l call c limit file bytes)
+      (past (flatBody (dm .body)) (bodyStart dm h)) (substitute limit file dm (Call.MacroCall span name args))
   unfolding tapesIn substitute
   tapes-matches n few deep bytes room =
       rw (macro-at dm h its-end, parts-call span name args g .parts .read)
-      (counted-matches dm span name args limit itsName h g few bytes (written-none 0 bytes room (omega arith)) (dm .body) n
+      (counted-matches dm span name args limit file itsName h g few bytes (written-none 0 bytes room (omega arith)) (dm .body) n
       (parts-def dm h .parts .runs .second) deep)

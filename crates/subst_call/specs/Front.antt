@@ -88,8 +88,8 @@ module _ (T : Tapes) where
 -- ------------------------------------------------------------------ a call
 
 -- what a substitution knows of the macro and of the call
-abbrev pub mapsFor : Layout → Layout → ℕ → Macro → Heading → SubstMaps
-mapsFor d c limit called head =
+abbrev pub mapsFor : Layout → Layout → (limit file : ℕ) → Macro → Heading → SubstMaps
+mapsFor d c limit file called head =
     record {
       definition = d;
       call = c;
@@ -98,15 +98,16 @@ mapsFor d c limit called head =
       «macro_name» = called .head .name;
       «call_span» = head .span;
       limit = limit;
+      file = file;
     }
 
 -- the table of up to sixteen arguments
 abbrev pub tableOf : List ℕ → Layout → Heading → Place → List ℕ
 tableOf call c head first = tableFrom call c (head .count) first 0 (replicate 96 0)
 
-unfoldable pub callIn : List ℕ → Layout → List ℕ → Layout → ℕ → Macro → Heading → Place → ℕ → Writer → List ℕ → Progress
-callIn def d call c limit called head first charged out bytes =
-    substituteBodyIn (tapes def call (tableOf call c head first) (mapsFor d c limit called head)) (called .kind) (called .end)
+unfoldable pub callIn : List ℕ → Layout → List ℕ → Layout → (limit file : ℕ) → Macro → Heading → Place → ℕ → Writer → List ℕ → Progress
+callIn def d call c limit file called head first charged out bytes =
+    substituteBodyIn (tapes def call (tableOf call c head first) (mapsFor d c limit file called head)) (called .kind) (called .end)
     (state (called .body) out charged) bytes
 
 -- ------------------------------------------------------------------ the two tapes
@@ -118,9 +119,9 @@ origin = record { at = 0; text = 0 }
 abbrev pub cedarAt : Heading → Walk
 cedarAt head = walk.Refused (refusedAt (head .span) (CedarInCondition (head .name))) 0
 
-unfoldable pub countedIn : List ℕ → Layout → List ℕ → Layout → ℕ → Macro → Heading → Place → List ℕ → Progress
-countedIn def d call c limit called head first bytes =
-    pick (eqb (called .head .count) (head .count)) (callIn def d call c limit called head first 0 (emptyAt 0) bytes)
+unfoldable pub countedIn : List ℕ → Layout → List ℕ → Layout → (limit file : ℕ) → Macro → Heading → Place → List ℕ → Progress
+countedIn def d call c limit file called head first bytes =
+    pick (eqb (called .head .count) (head .count)) (callIn def d call c limit file called head first 0 (emptyAt 0) bytes)
     (progress (walk.Refused (wrongCount (called .head) head) 0) bytes)
 
 abbrev pub onKind : Heading → Progress → List ℕ → BodyNode → Progress
@@ -128,11 +129,11 @@ onKind head X bytes body.Cedar = progress (cedarAt head) bytes
 onKind head X bytes body.Condition = X
 onKind head X bytes body.Value = X
 
-unfoldable pub tapesIn : List ℕ → Layout → List ℕ → Layout → ℕ → List ℕ → Progress
-tapesIn def d call c limit bytes =
+unfoldable pub tapesIn : List ℕ → Layout → List ℕ → Layout → (limit file : ℕ) → List ℕ → Progress
+tapesIn def d call c limit file bytes =
     onMacro (progress (withoutMessageAt 2 0 0) bytes)
     (λ called.
     onHeading (progress (withoutMessageAt 2 0 0) bytes)
-    (λ head first. onKind head (countedIn def d call c limit called head first bytes) bytes (called .kind))
+    (λ head first. onKind head (countedIn def d call c limit file called head first bytes) bytes (called .kind))
     (headingAt call c origin 54))
     (macroAt def d origin)

@@ -176,6 +176,7 @@ pub fn substitute_call<'a>(
     call: &'a [u8],
     c: Layout,
     limit: u32,
+    file: u16,
     called: Macro,
     head: Heading,
     first: Place,
@@ -183,7 +184,7 @@ pub fn substitute_call<'a>(
     buf: &mut [u8],
     out: Writer,
 ) -> Walk
-    ensures { λ r. ⌜ progress r (now (buf .exit)) ≡ callIn (now (def .entry)) d (now (call .entry)) c limit called head first charged out (now (buf .entry)) ⌝ }
+    ensures { λ r. ⌜ progress r (now (buf .exit)) ≡ callIn (now (def .entry)) d (now (call .entry)) c limit file called head first charged out (now (buf .entry)) ⌝ }
 {
     let mut args = [0usize; 96];
     find_arguments(call, c, first, head.count, &mut args);
@@ -197,6 +198,7 @@ pub fn substitute_call<'a>(
         macro_name,
         call_span: head.span,
         limit,
+        file,
     };
     let place = called.body;
     let st = State {
@@ -215,9 +217,10 @@ pub fn substitute_tapes<'a>(
     call: &'a [u8],
     c: Layout,
     limit: u32,
+    file: u16,
     buf: &mut [u8],
 ) -> Walk
-    ensures { λ r. ⌜ progress r (now (buf .exit)) ≡ tapesIn (now (def .entry)) d (now (call .entry)) c limit (now (buf .entry)) ⌝ }
+    ensures { λ r. ⌜ progress r (now (buf .exit)) ≡ tapesIn (now (def .entry)) d (now (call .entry)) c limit file (now (buf .entry)) ⌝ }
 {
     let origin = Place { at: 0, text: 0 };
     let MacroRead::Macro(called) = read_macro(def, d, origin) else {
@@ -229,8 +232,8 @@ pub fn substitute_tapes<'a>(
     let kind = called.kind;
     match kind {
         BodyNode::Cedar => cedar(head),
-        BodyNode::Condition => counted(def, d, call, c, limit, called, head, first, buf),
-        BodyNode::Value => counted(def, d, call, c, limit, called, head, first, buf),
+        BodyNode::Condition => counted(def, d, call, c, limit, file, called, head, first, buf),
+        BodyNode::Value => counted(def, d, call, c, limit, file, called, head, first, buf),
     }
 }
 
@@ -248,16 +251,30 @@ fn counted<'a>(
     call: &'a [u8],
     c: Layout,
     limit: u32,
+    file: u16,
     called: Macro,
     head: Heading,
     first: Place,
     buf: &mut [u8],
 ) -> Walk
-    ensures { λ r. ⌜ progress r (now (buf .exit)) ≡ countedIn (now (def .entry)) d (now (call .entry)) c limit called head first (now (buf .entry)) ⌝ }
+    ensures { λ r. ⌜ progress r (now (buf .exit)) ≡ countedIn (now (def .entry)) d (now (call .entry)) c limit file called head first (now (buf .entry)) ⌝ }
 {
     if called.head.count != head.count {
         return Walk::Refused(wrong_count(called.head, head), 0);
     }
     let out = empty(0);
-    substitute_call(def, d, call, c, limit, called, head, first, 0, buf, out)
+    substitute_call(
+        def,
+        d,
+        call,
+        c,
+        limit,
+        file,
+        called,
+        head,
+        first,
+        0,
+        buf,
+        out,
+    )
 }

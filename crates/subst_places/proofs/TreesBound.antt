@@ -184,5 +184,6 @@ pub record Bound (T : Tapes) (maps : SubstMaps) : Type 0 where
   pub its-name : nameAt (T .definition) (T .maps .definition) (T .maps .«macro_name») ≡ maps .macroName
   pub its-span : T .maps .«call_span» ≡ maps .callSpan
   pub its-limit : T .maps .limit ≡ maps .limit
+  pub its-file : T .maps .file ≡ maps .file
   pub finds : (name : Name) {n : Text} → nameAt (T .definition) (T .maps .definition) name ≡ n
       → FoundIs (T .call) (T .maps .call) (lookup (maps .params) (maps .args) n) (argFor (T .definition) (T .table) (T .maps) name)

@@ -45,7 +45,6 @@ use Rattle.nodes.proofs.Placed.{sigilNode, binderList, parts-list, parts-slot, 
 use Rattle.area.specs.Area.{Area, putTextIn}
 use Rattle.area.proofs.Appends.{out-put-text, fits-front}
 use Rattle.area.proofs.Room.{fits-decides}
-use Rattle.area.proofs.Generated.{generated-name}
 use Rattle.area.proofs.Within.{within-put-text, within-refl}
 use Rattle.messages.specs.Reason.{numberOf, messageOf, refusedAt}
 use Rattle.messages.specs.declared.Reason.{Reason}
@@ -158,9 +157,9 @@ module _ {T : Tapes} {maps : SubstMaps} (B : Bound T maps) where
   pub gensym-matches : {A : Type 0} {flat : A → List Entry} (a : A) (code : ℕ) {n : Text} (name : Name) (p : Place) {P : Area} {es : List Entry}
       {next : Place} {k : ℕ} → spells name ≡ n → Written P es → textEntry code (gensymFor maps n) ∷ [] ≡ flat a
       → WalkMatches T flat P es (gensymIn (T .definition) (T .maps) code name (state p (P .out) k) next (P .bytes)) next (Outcome.done a k)
-  unfolding gensymIn openOutcome
+  unfolding gensymIn gensymFor openOutcome
   gensym-matches a code {n} name p {P} {next = next} {k} h w e =
-      starting T (ap (λ (t : Text). going next k (putTextIn code t P)) (rw (h, B .its-span) (generated-name maps n)))
+      starting T (ap (λ (t : Text). going next k (putTextIn code t P)) (rw (h, B .its-span, B .its-file)))
       (text-matches a code (gensymFor maps n) w e)
 
   -- ------------------------------------------------------------------ pastes

@@ -274,22 +274,23 @@ pub bound : {T : Tapes} {maps : SubstMaps} {first : Place} (t : List ℕ)
     → Inside (T .call) (T .maps .call) first (flatArgs (maps .args)) → lengthArgs (maps .args) ≡ length (maps .params)
     → 6 * lengthArgs (maps .args) ≤ length t → T .table ≡ tableFrom (T .call) (T .maps .call) (lengthArgs (maps .args)) first 0 t
     → nameAt (T .definition) (T .maps .definition) (T .maps .«macro_name») ≡ maps .macroName → T .maps .«call_span» ≡ maps .callSpan
-    → T .maps .limit ≡ maps .limit → Bound T maps
+    → T .maps .limit ≡ maps .limit → T .maps .file ≡ maps .file → Bound T maps
 unfolding argFor
-bound {T} {maps} {first} t params count args same room filled its-name its-span its-limit =
+bound {T} {maps} {first} t params count args same room filled its-name its-span its-limit its-file =
     let rows : Rows (T .call) (T .maps .call) (T .table) 0 (maps .args) =
     rw filled (table-rows (T .call) (T .maps .call) (maps .args) 0 0 t refl args (omega arith)) in
     record {
       its-name = its-name;
       its-span = its-span;
       its-limit = its-limit;
+      its-file = its-file;
       finds = λ name {n} e.
           rw (count, ← (else-none (lookup (maps .params) (maps .args) n)))
           (search-right (T .table) name e (maps .params) (maps .args) 0 params same rows (nothing refl refl));
     }
 
 -- A definition and a call of it, each where it stands.
-pub bound-of : (d : MacroDef) (span : ℕ) (name : Text) (args : CallArgs) (limit : ℕ) {def call : List ℕ} {l c : Layout} {p q : Place}
+pub bound-of : (d : MacroDef) (span : ℕ) (name : Text) (args : CallArgs) (limit file : ℕ) {def call : List ℕ} {l c : Layout} {p q : Place}
     (t : List ℕ)
     (h : Inside def l p (flatDef d)) → Inside call c q (flatCall (Call.MacroCall span name args)) → lengthArgs args ≡ length (d .params)
     → 6 * lengthArgs args ≤ length t
@@ -303,9 +304,10 @@ pub bound-of : (d : MacroDef) (span : ℕ) (name : Text) (args : CallArgs) (limi
       «macro_name» = parts-def d h .its-name;
       «call_span» = span;
       limit = limit;
+      file = file;
     }))
-    (mapsOf d limit (Call.MacroCall span name args))
+    (mapsOf d limit file (Call.MacroCall span name args))
 unfolding mapsOf
-bound-of d span name args limit t h g same room =
+bound-of d span name args limit file t h g same room =
     bound t (parts-def d h .parts .runs .first) refl (parts-call span name args g .parts .runs .first) same room refl
-    (parts-def d h .spelled) refl refl
+    (parts-def d h .spelled) refl refl refl

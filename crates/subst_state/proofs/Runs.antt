@@ -8,7 +8,8 @@ use Rattle.nodes.specs.Node.{nameAt}
 use Rattle.tape.specs.declared.layout.Layout.{Layout}
 use Rattle.tape.specs.declared.layout.Place.{Place}
 use Rattle.nodes.specs.declared.Name.{Name}
-use Rattle.area.specs.Area.{Area, areaIn, appendIn, putTextIn, generated}
+use Rattle.definition.specs.Substitute.{generated}
+use Rattle.area.specs.Area.{Area, areaIn, appendIn, putTextIn}
 use Rattle.area.specs.declared.Writer.{Writer}
 use Rattle.messages.specs.Reason.{refusedAt}
 use Rattle.messages.specs.declared.Reason.the-variants.{Budget}
@@ -65,7 +66,7 @@ module _ (m : SubstMaps) (n : ℕ) (st : State) {x : Charged} (c : x ≡ chargeO
 
 pub gensym : (def : List ℕ) (m : SubstMaps) (code : ℕ) (name : Name) (st : State) (next : Place) (bytes : List ℕ) {t : List ℕ} {o : Writer} {bs : List ℕ}
     → t ≡ nameAt def (m .definition) name
-    → areaIn o bs ≡ putTextIn code (generated t (m .«call_span» % 4294967296)) (areaIn (st .out) bytes)
+    → areaIn o bs ≡ putTextIn code (generated t (m .«call_span» % 4294967296) (m .file)) (areaIn (st .out) bytes)
     → progress (walk.Going (state next o (st .charged))) bs ≡ gensymIn def m code name st next bytes
 unfolding gensymIn
 gensym def m code name st next bytes e q = ap (going next (st .charged)) (rw (← e) q)

@@ -9,7 +9,8 @@ use Rattle.nodes.specs.Node.{nameAt}
 use Rattle.tape.specs.declared.layout.Layout.{Layout}
 use Rattle.tape.specs.declared.layout.Place.{Place}
 use Rattle.nodes.specs.declared.Name.{Name}
-use Rattle.area.specs.Area.{Area, areaIn, appendIn, putTextIn, generated}
+use Rattle.definition.specs.Substitute.{generated}
+use Rattle.area.specs.Area.{Area, areaIn, appendIn, putTextIn}
 use Rattle.messages.specs.Reason.{refusedAt}
 use Rattle.messages.specs.declared.Reason.the-variants.{Budget}
 use Rattle.messages.specs.declared.Refused.{Refused}
@@ -62,8 +63,8 @@ chargePasteIn call m arg st next bytes = pasteIn call m arg next (progress (char
 
 -- ------------------------------------------------------------------ a binder's name
 
--- "`$t` becomes t, `$`, and the call's start"
+-- "`$t` becomes t, `$`, and the call's start"; and the file number, where it is not 0
 unfoldable pub gensymIn : List ℕ → SubstMaps → ℕ → Name → State → Place → List ℕ → Progress
 gensymIn def m code name st next bytes =
     going next (st .charged)
-    (putTextIn code (generated (nameAt def (m .definition) name) (m .«call_span» % 4294967296)) (areaIn (st .out) bytes))
+    (putTextIn code (generated (nameAt def (m .definition) name) (m .«call_span» % 4294967296) (m .file)) (areaIn (st .out) bytes))

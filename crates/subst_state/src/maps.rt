@@ -24,8 +24,8 @@ ghost use lib.Seq.{sets};
 ghost use Rattle.subst_state.specs.Arguments.{sortOf, measureAt, rowOf, tableFrom, argumentIn, argFor};
 ghost use Rattle.subst_state.specs.Output.{chargeOf};
 
-// The Rust's `SubstMaps`: the layouts of the two tapes, where the parameters stand and how many they are, and what messages and
-// charges want.
+// The Rust's `SubstMaps`: the layouts of the two tapes, where the parameters stand and how many they are, and what messages, charges
+// and generated names want.
 pub struct SubstMaps {
     pub definition: Layout,
     pub call: Layout,
@@ -34,6 +34,7 @@ pub struct SubstMaps {
     pub macro_name: Name,
     pub call_span: u64,
     pub limit: u32,
+    pub file: u16,
 }
 
 pub enum Charged {

@@ -90,7 +90,8 @@ pub fn charge_paste<'a>(
     paste(def, call, buf, m, arg, paid, next)
 }
 
-// `$t` becomes t, `$` and the call's start, so it has the same name at each place within a call.
+// `$t` becomes t, `$`, the call's start and, in a file above 0, `#` and the file number, so it has the same name at each place within
+// a call.
 pub fn gensym_for(
     def: &[u8],
     buf: &mut [u8],
@@ -103,7 +104,14 @@ pub fn gensym_for(
     ensures { λ r. ⌜ progress r (now (buf .exit)) ≡ gensymIn (now (def .entry)) m code name st next (now (buf .entry)) ⌝ }
 {
     let start = (m.call_span % 0x1_0000_0000) as u32;
-    let out = put_generated(buf, st.out, code, name_at(def, m.definition, name), start);
+    let out = put_generated(
+        buf,
+        st.out,
+        code,
+        name_at(def, m.definition, name),
+        start,
+        m.file,
+    );
     Walk::Going(State {
         place: next,
         out,

@@ -24,7 +24,7 @@ passes {definition} p =
     }
 
 pub demand3-returned : Demand3Returned
-demand3-returned b limit definition input def call r result work message tapes p q met =
+demand3-returned b limit file definition input def call r result work message tapes p q met =
     let safe : SafeAnswer b (answerWith r result work message) =
-    subst (SafeAnswer b) (sym met) (demand3-on-tapes b limit definition input def call tapes (passes p) q) in
+    subst (SafeAnswer b) (sym met) (demand3-on-tapes b limit file definition input def call tapes (passes p) q) in
     record { never-48 = safe .never-48; never-41 = safe .never-41; nothing-left = safe .nothing-left }

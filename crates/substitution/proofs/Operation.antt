@@ -35,38 +35,38 @@ use Rattle.substitution.specs.Substituted.{AnswersSubstitution}
 use Rattle.substitution.proofs.TreesAccepted.{substitution-matches}
 
 -- the walk leaves the work buffer as long as it was
-pub answered : (r m limit : ℕ) (definition input : List ℕ) (d c : Layout) {a : Answer} {w : Walk} (work bytes : List ℕ)
-    → length bytes ≡ length work → progress w bytes ≡ tapesIn definition d input c limit work
+pub answered : (r m limit file : ℕ) (definition input : List ℕ) (d c : Layout) {a : Answer} {w : Walk} (work bytes : List ℕ)
+    → length bytes ≡ length work → progress w bytes ≡ tapesIn definition d input c limit file work
     → AnswersOutcome definition d input c w bytes (buffers r (length bytes) m) a
-    → AnswersSubstitution definition d input c limit work (buffers r (length work) m) a
-answered r m limit definition input d c {a} {w} work bytes kept walked k =
+    → AnswersSubstitution definition d input c limit file work (buffers r (length work) m) a
+answered r m limit file definition input d c {a} {w} work bytes kept walked k =
     rw (← walked) (subst (λ (n : ℕ). AnswersOutcome definition d input c w bytes (buffers r n m) a) kept k)
 
 -- the walk went over the rewritten tapes
-pub answered-rewritten : (limit : ℕ) (definition input zeros : List ℕ) (d c : Layout) {e f : Layout} {first second : List ℕ} (work : List ℕ) (b : Buffers)
+pub answered-rewritten : (limit file : ℕ) (definition input zeros : List ℕ) (d c : Layout) {e f : Layout} {first second : List ℕ} (work : List ℕ) (b : Buffers)
     {a : Answer} → (e ≡ rewrittenLayout definition d) × (first ≡ rewrittenIn definition d zeros)
-    → (f ≡ rewrittenLayout input c) × (second ≡ rewrittenIn input c zeros) → AnswersSubstitution first e second f limit work b a
-    → AnswersSubstitution (rewrittenIn definition d zeros) (rewrittenLayout definition d) (rewrittenIn input c zeros) (rewrittenLayout input c) limit work b a
-answered-rewritten limit definition input zeros d c work b p q k = rw (← (p .0), ← (p .1), ← (q .0), ← (q .1)) k
+    → (f ≡ rewrittenLayout input c) × (second ≡ rewrittenIn input c zeros) → AnswersSubstitution first e second f limit file work b a
+    → AnswersSubstitution (rewrittenIn definition d zeros) (rewrittenLayout definition d) (rewrittenIn input c zeros) (rewrittenLayout input c) limit file work b a
+answered-rewritten limit file definition input zeros d c work b p q k = rw (← (p .0), ← (p .1), ← (q .0), ← (q .1)) k
 
 -- what is found of the trees as they were given
-abbrev find : ℕ → MacroDef → Call → Outcome Tree
-find limit x y = substitute limit (rewritten definitionRoot x) (rewritten callRoot y)
+abbrev find : (limit file : ℕ) → MacroDef → Call → Outcome Tree
+find limit file x y = substitute limit file (rewritten definitionRoot x) (rewritten callRoot y)
 
-module _ (r l m limit : ℕ) (definition input : List ℕ) (p : Bytes definition) (q : Bytes input) where
+module _ (r l m limit file : ℕ) (definition input : List ℕ) (p : Bytes definition) (q : Bytes input) where
   abbrev b : Buffers
   b = buffers r l m
 
-  as-accepted : substituteAnswer b limit definition input
-      ≡ treeAnswer b (reading (accept (weighted definitionRoot) definition) λ x. reading (accept (weighted callRoot) input) λ y. find limit x y)
+  as-accepted : substituteAnswer b limit file definition input
+      ≡ treeAnswer b (reading (accept (weighted definitionRoot) definition) λ x. reading (accept (weighted callRoot) input) λ y. find limit file x y)
   unfolding substituteAnswer substituteTapes
   as-accepted =
-      ap (treeAnswer b) (read-two rewrites-definition rewrites-call lawful-definition lawful-call definition input p q (substitute limit))
+      ap (treeAnswer b) (read-two rewrites-definition rewrites-call lawful-definition lawful-call definition input p q (substitute limit file))
 
   -- a tape is refused
   pub refused : {n : ℕ} {a : Answer} → longBuffers b ≡ true → acceptTwo definition grammar.definition input grammar.call ≡ Refused n
-      → a ≡ ended b (numberAlone n) → a ≡ substituteAnswer b limit definition input
-  refused long e k = tree-refused definitionRoot callRoot definition-root call-root (find limit) b definition input long e k ∙ sym as-accepted
+      → a ≡ ended b (numberAlone n) → a ≡ substituteAnswer b limit file definition input
+  refused long e k = tree-refused definitionRoot callRoot definition-root call-root (find limit file) b definition input long e k ∙ sym as-accepted
 
   module _ (small : limit < 2 ^ 32) (long : longBuffers b ≡ true) {d c : Layout}
       (e : acceptTwo definition grammar.definition input grammar.call ≡ Both d c) (work : List ℕ) (room : l ≡ length work) where
@@ -77,19 +77,19 @@ module _ (r l m limit : ℕ) (definition input : List ℕ) (p : Bytes definition
     second = accepted-root call-root input q c (second-accepted definition input grammar.definition grammar.call e)
 
     walked : {s t : List ℕ} {d′ c′ : Layout} {a : Answer} → Alone definitionRoot s d′ (rewritten definitionRoot (first .0))
-        → Alone callRoot t c′ (rewritten callRoot (second .0)) → AnswersSubstitution s d′ t c′ limit work b a
-        → a ≡ substituteAnswer b limit definition input
+        → Alone callRoot t c′ (rewritten callRoot (second .0)) → AnswersSubstitution s d′ t c′ limit file work b a
+        → a ≡ substituteAnswer b limit file definition input
     walked {s} {t} {d′} {c′} h g k =
-        let X = tapesIn s d′ t c′ limit work in
-        let matches = substitution-matches limit (rewritten definitionRoot (first .0)) (rewritten callRoot (second .0)) h g work
+        let X = tapesIn s d′ t c′ limit file work in
+        let matches = substitution-matches limit file (rewritten definitionRoot (first .0)) (rewritten callRoot (second .0)) h g work
         (omega (arith, room, long-enough b long .work)) in
-        tree-walked definitionRoot callRoot definition-root call-root (find limit) b definition input s t d′ c′ (X .walk) (X .bytes) long (first .1 .reading) (second .1 .reading)
-        (subst (λ (z : Answer). z .messageLength ≤ 2048) as-accepted (substitute-bounded b limit small definition input p q .short-message)) matches k
+        tree-walked definitionRoot callRoot definition-root call-root (find limit file) b definition input s t d′ c′ (X .walk) (X .bytes) long (first .1 .reading) (second .1 .reading)
+        (subst (λ (z : Answer). z .messageLength ≤ 2048) as-accepted (substitute-bounded b limit file small definition input p q .short-message)) matches k
         ∙ sym as-accepted
 
     -- no tape has an Or
-    pub substituted : {a : Answer} → (eqb (orsIn definition d) 0 && eqb (orsIn input c) 0) ≡ true → AnswersSubstitution definition d input c limit work b a
-        → a ≡ substituteAnswer b limit definition input
+    pub substituted : {a : Answer} → (eqb (orsIn definition d) 0 && eqb (orsIn input c) 0) ≡ true → AnswersSubstitution definition d input c limit file work b a
+        → a ≡ substituteAnswer b limit file definition input
     substituted none k =
         let t = from-true none in
         let one = eqb (orsIn definition d) 0 in
@@ -99,8 +99,8 @@ module _ (r l m limit : ℕ) (definition input : List ℕ) (p : Bytes definition
 
     pub substituted-rewritten : {a : Answer} →
         AnswersSubstitution (rewrittenIn definition d (replicate 12296 0)) (rewrittenLayout definition d) (rewrittenIn input c (replicate 12296 0))
-        (rewrittenLayout input c) limit work b a
-        → a ≡ substituteAnswer b limit definition input
+        (rewrittenLayout input c) limit file work b a
+        → a ≡ substituteAnswer b limit file definition input
     substituted-rewritten k =
         walked
         (rewritten-alone definition-root rewrites-definition (first .1) (replicate 12296 0) (omega (arith, length-replicate {A = ℕ} 12296 0)))

@@ -37,15 +37,15 @@ use Rattle.subst_call.proofs.TreesFront.{small-fits, limited, tapes-cedar, ceda
 
 -- ------------------------------------------------------------------ a result fits
 
-module _ (limit : ℕ) (dm : MacroDef) where
+module _ (limit file : ℕ) (dm : MacroDef) where
   abbrev Fits : Tree → Type 0
   Fits t = fitsArea (flatTree t) ≡ true
 
-  body-fits : (b : MacroBody) (c : Call) → AllDone Fits (substituteBody limit dm b c 0)
+  body-fits : (b : MacroBody) (c : Call) → AllDone Fits (substituteBody limit file dm b c 0)
   unfolding substituteBody substituteTemporalCondition substituteTemporalValue openOutcome AllDone flatTree
   body-fits MacroBody.Cedar (Call.MacroCall span name args) = tt
   body-fits (MacroBody.TemporalCondition b) (Call.MacroCall span name args) =
-      let maps = mapsOf dm limit (Call.MacroCall span name args) in
+      let maps = mapsOf dm limit file (Call.MacroCall span name args) in
       all-bind Fits _ (checkArity dm (lengthArgs args) span 0) (λ u k.
       all-bind Fits _ (chargeBody limit (MacroBody.TemporalCondition b) span k) (λ u k₁.
       all-map (λ (c : Condition). fitsArea (flatCondition c) ≡ true) Fits (λ c. Tree.condition c)
@@ -54,7 +54,7 @@ module _ (limit : ℕ) (dm : MacroDef) where
       limited (λ (c : Condition). fitsArea (flatCondition c) ≡ true) (tooLargeTree (Tree.condition c)) (maps .callSpan) k₂ c
       (small-fits (Tree.condition c))))))
   body-fits (MacroBody.TemporalValue b) (Call.MacroCall span name args) =
-      let maps = mapsOf dm limit (Call.MacroCall span name args) in
+      let maps = mapsOf dm limit file (Call.MacroCall span name args) in
       all-bind Fits _ (checkArity dm (lengthArgs args) span 0) (λ u k.
       all-bind Fits _ (chargeBody limit (MacroBody.TemporalValue b) span k) (λ u k₁.
       all-map (λ (t : Term). fitsArea (flatTerm t) ≡ true) Fits (λ t. Tree.term t) (substituteTemporalValue b maps k₁) (λ t e. e)
@@ -68,12 +68,12 @@ is-cedar MacroBody.Cedar = inl refl
 is-cedar (MacroBody.TemporalCondition c) = inr λ e. let z : _≡_ {A = ℕ} 0 1 = cc in omega arith
 is-cedar (MacroBody.TemporalValue t) = inr λ e. let z : _≡_ {A = ℕ} 0 1 = cc in omega arith
 
-pub substitution-matches : (limit : ℕ) {def call : List ℕ} {l c : Layout} (dm : MacroDef) (cl : Call) → Alone definitionRoot def l dm
+pub substitution-matches : (limit file : ℕ) {def call : List ℕ} {l c : Layout} (dm : MacroDef) (cl : Call) → Alone definitionRoot def l dm
     → Alone callRoot call c cl
     → (bytes : List ℕ) → 12288 ≤ length bytes
-    → let X : Progress = tapesIn def l call c limit bytes in OutcomeMatches def l call c (X .walk) (X .bytes) (substitute limit dm cl)
+    → let X : Progress = tapesIn def l call c limit file bytes in OutcomeMatches def l call c (X .walk) (X .bytes) (substitute limit file dm cl)
 unfolding definitionRoot callRoot substitute substituteBody OutcomeMatches openOutcome
-substitution-matches limit {def} {call} {l} {c} dm (Call.MacroCall span name args) h g bytes room = by-kind (is-cedar (dm .body))
+substitution-matches limit file {def} {call} {l} {c} dm (Call.MacroCall span name args) h g bytes room = by-kind (is-cedar (dm .body))
   where
     d : Inside def l origin (flatDef dm)
     d = h .inside
@@ -84,16 +84,16 @@ substitution-matches limit {def} {call} {l} {c} dm (Call.MacroCall span name arg
     whole : l .entries ≡ length (flatDef dm)
     whole = h .entries-are
 
-    go : {T : Tapes} {P : Area} {X : Progress} {end : Place} (o : Outcome Tree) → substitute limit dm (Call.MacroCall span name args) ≡ o
+    go : {T : Tapes} {P : Area} {X : Progress} {end : Place} (o : Outcome Tree) → substitute limit file dm (Call.MacroCall span name args) ≡ o
         → WalkMatches T flatTree P [] X end o → OutcomeMatches (T .definition) (T .maps .definition) call c (X .walk) (X .bytes) o
-    go o e (writes Q x w v) = rw x (refl, w .out, all-of (Fits limit dm) (body-fits limit dm (dm .body) (Call.MacroCall span name args)) e)
+    go o e (writes Q x w v) = rw x (refl, w .out, all-of (Fits limit file dm) (body-fits limit file dm (dm .body) (Call.MacroCall span name args)) e)
     go o e (refuses after x same v) = rw x (refl, same call c)
 
     by-kind : (dm .body ≡ MacroBody.Cedar) ⊎ (dm .body ≢ MacroBody.Cedar)
-        → OutcomeMatches def l call c (tapesIn def l call c limit bytes .walk) (tapesIn def l call c limit bytes .bytes)
-        (substitute limit dm (Call.MacroCall span name args))
-    by-kind (inl e) = rw (tapes-cedar dm span name args limit d i whole bytes e, e) (refl, cedar-refusal-matches dm span name args limit d i whole)
+        → OutcomeMatches def l call c (tapesIn def l call c limit file bytes .walk) (tapesIn def l call c limit file bytes .bytes)
+        (substitute limit file dm (Call.MacroCall span name args))
+    by-kind (inl e) = rw (tapes-cedar dm span name args limit file d i whole bytes e, e) (refl, cedar-refusal-matches dm span name args limit file d i whole)
     by-kind (inr n) =
-        go (substitute limit dm (Call.MacroCall span name args)) refl
-        (tapes-matches dm span name args limit d i whole n (few-params dm (h .few))
+        go (substitute limit file dm (Call.MacroCall span name args)) refl
+        (tapes-matches dm span name args limit file d i whole n (few-params dm (h .few))
         (nesting-64 (deepBody nodeWeight (dm .body)) (deepBody callWeight (dm .body)) (h .depths)) bytes room)

@@ -33,10 +33,10 @@ pub record SafeReturn (n : ℕ) (r : Answer) (result : List ℕ) : Type 0 where
   pub never-41 : r .number ≢ 41
   pub nothing-left : r .number ≡ 0 → (t : Tree) × (result ≡ padded n (encode (flatTree t))) × (holdsMacro (flatTree t) ≡ false)
 
--- for every definition that passed, every call of it with the right number of plain arguments, every limit and all buffers
+-- for every definition that passed, every call of it with the right number of plain arguments, every limit, every file number and all buffers
 abbrev pub Demand3Returned : Type 0
 Demand3Returned =
-    (b : Buffers) (limit : ℕ) (definition input : List ℕ) (def : MacroDef) (call : Call) (r : Answer) (result work message : List ℕ)
+    (b : Buffers) (limit file : ℕ) (definition input : List ℕ) (def : MacroDef) (call : Call) (r : Answer) (result work message : List ℕ)
     → OnTapes definition input def call → Passed definition → RightCall def call
-    → answerWith r result work message ≡ substituteAnswer b limit definition input
+    → answerWith r result work message ≡ substituteAnswer b limit file definition input
     → SafeReturn (b .resultLength) r result

@@ -25,13 +25,14 @@ fn substitute_in<'a>(
     call: &'a [u8],
     c: Layout,
     limit: u32,
+    file: u16,
     result: &mut [u8],
     work: &mut [u8],
     message: &mut [u8],
 ) -> Answer
-    ensures { λ r. ⌜ AnswersSubstitution (now (definition .entry)) d (now (call .entry)) c limit (now (work .entry)) (buffers (length (now (result .entry))) (length (now (work .entry))) (length (now (message .entry)))) (answerWith r (now (result .exit)) (now (work .exit)) (now (message .exit))) ⌝ }
+    ensures { λ r. ⌜ AnswersSubstitution (now (definition .entry)) d (now (call .entry)) c limit file (now (work .entry)) (buffers (length (now (result .entry))) (length (now (work .entry))) (length (now (message .entry)))) (answerWith r (now (result .exit)) (now (work .exit)) (now (message .exit))) ⌝ }
 {
-    let w = substitute_tapes(definition, d, call, c, limit, work);
+    let w = substitute_tapes(definition, d, call, c, limit, file, work);
     answer_walk(definition, d, call, c, w, result, work, message)
 }
 
@@ -42,17 +43,18 @@ fn substitute_rewritten(
     call: &[u8],
     c: Layout,
     limit: u32,
+    file: u16,
     result: &mut [u8],
     work: &mut [u8],
     message: &mut [u8],
 ) -> Answer
-    ensures { λ r. ⌜ AnswersSubstitution (rewrittenIn (now (definition .entry)) d (replicate 12296 0)) (rewrittenLayout (now (definition .entry)) d) (rewrittenIn (now (call .entry)) c (replicate 12296 0)) (rewrittenLayout (now (call .entry)) c) limit (now (work .entry)) (buffers (length (now (result .entry))) (length (now (work .entry))) (length (now (message .entry)))) (answerWith r (now (result .exit)) (now (work .exit)) (now (message .exit))) ⌝ }
+    ensures { λ r. ⌜ AnswersSubstitution (rewrittenIn (now (definition .entry)) d (replicate 12296 0)) (rewrittenLayout (now (definition .entry)) d) (rewrittenIn (now (call .entry)) c (replicate 12296 0)) (rewrittenLayout (now (call .entry)) c) limit file (now (work .entry)) (buffers (length (now (result .entry))) (length (now (work .entry))) (length (now (message .entry)))) (answerWith r (now (result .exit)) (now (work .exit)) (now (message .exit))) ⌝ }
 {
     let mut first = [0u8; 12296];
     let mut second = [0u8; 12296];
     let e = rewrite(definition, d, &mut first);
     let f = rewrite(call, c, &mut second);
-    substitute_in(&first, e, &second, f, limit, result, work, message)
+    substitute_in(&first, e, &second, f, limit, file, result, work, message)
 }
 
 // The operation: the answer and every byte of the three buffers are what the definition says, for every input and every buffer.
@@ -60,11 +62,12 @@ pub fn substitute<'a>(
     definition: &'a [u8],
     call: &'a [u8],
     limit: u32,
+    file: u16,
     result: &mut [u8],
     work: &mut [u8],
     message: &mut [u8],
 ) -> Answer
-    ensures { λ r. ⌜ answerWith r (now (result .exit)) (now (work .exit)) (now (message .exit)) ≡ substituteAnswer (buffers (length (now (result .entry))) (length (now (work .entry))) (length (now (message .entry)))) limit (now (definition .entry)) (now (call .entry)) ⌝ }
+    ensures { λ r. ⌜ answerWith r (now (result .exit)) (now (work .exit)) (now (message .exit)) ≡ substituteAnswer (buffers (length (now (result .entry))) (length (now (work .entry))) (length (now (message .entry)))) limit file (now (definition .entry)) (now (call .entry)) ⌝ }
 {
     if !long_buffers(result.len(), work.len(), message.len()) {
         return number_alone(1, 0, result, work, message);
@@ -73,9 +76,9 @@ pub fn substitute<'a>(
     match accepted {
         Accepted::Both(d, c) => {
             if without_or(definition, d, call, c) {
-                substitute_in(definition, d, call, c, limit, result, work, message)
+                substitute_in(definition, d, call, c, limit, file, result, work, message)
             } else {
-                substitute_rewritten(definition, d, call, c, limit, result, work, message)
+                substitute_rewritten(definition, d, call, c, limit, file, result, work, message)
             }
         }
         Accepted::Refused(n) => number_alone(n, 0, result, work, message),

@@ -60,9 +60,9 @@ fn run(s: &[u8], v: Vector, result: &mut [u8], work: &mut [u8], message: &mut [u
     match v.kind / 64 {
         1 => check_body::check(first, message),
         2 => registry::build(first, message),
-        3 => substitution::substitute(first, second, v.limit, result, work, message),
+        3 => substitution::substitute(first, second, v.limit, v.file, result, work, message),
         10 => older::older(first, result),
-        _ => expansion::expand(first, second, v.limit, result, work, message),
+        _ => expansion::expand(first, second, v.limit, v.file, result, work, message),
     }
 }
 

@@ -5,8 +5,9 @@ use Prim.Native.Nat.{_+_, _-_}
 use native.Mathlib.Omega.{arith}
 use denote.Ref.{now}
 use borrow.Author.Needs.{needs}
+use Rattle.definition.specs.Substitute.{generated}
 use Rattle.buffer.proofs.Lent.{sets-lent}
-use Rattle.area.specs.Area.{areaIn, textEnd, generated}
+use Rattle.area.specs.Area.{areaIn, textEnd}
 use Rattle.area.proofs.Generated.{put-text-room}
 use Rattle.area.proofs.generate.Statement.{statement}
 use Rattle.area.proofs.generate.Tie as tie
@@ -15,7 +16,7 @@ returns : tie.Need-returns
 returns c =
     let p = c .before .before .before .before .before .before .before .before .before .before .before .before .before .before .before .args in
     let P = areaIn (p .out) (now (p .s)) in
-    let text = generated (now (p .name)) (p .start) in
+    let text = generated (now (p .name)) (p .start) (p .file) in
     let e : textEnd (p .out) + p .bytes - textEnd (p .out) ≡ p .bytes = omega arith in
     let lent = sets-lent (now (p .s)) (textEnd (p .out)) (p .bytes) text (omega arith) (omega (arith, c .before .before .before .before .before .before .before .before .before .before .before .before .before .before .before .pre .1)) in
     c .before .before .write-heads .ensures

@@ -22,8 +22,8 @@ returns c =
 returns-2 : tie.Need-returns-2
 returns-2 c =
     let at = c .before .before .before .before .before .before .before .before .before .before .before .before .before .before .before .before .before .before .before .before .before .before .before in
-    expanded _ _ _ _ _ _ (bytes-all (now (at .args .registry)) (λ i. c .before .before .before .before .before .before .before .before .before .before .before .before .before .before .before .before .before .before .before .before .before .before .shared-slice-known .given i .fits))
-    (bytes-all (now (at .args .condition)) (λ i. c .before .before .before .before .before .before .before .before .before .before .before .before .before .before .before .before .before .before .before .before .before .shared-slice-known2 .given i .fits)) (at .fits .limit .fits)
+    expanded _ _ _ _ _ _ _ (bytes-all (now (at .args .registry)) (λ i. c .before .before .before .before .before .before .before .before .before .before .before .before .before .before .before .before .before .before .before .before .before .before .shared-slice-known .given i .fits))
+    (bytes-all (now (at .args .input)) (λ i. c .before .before .before .before .before .before .before .before .before .before .before .before .before .before .before .before .before .before .before .before .before .shared-slice-known2 .given i .fits)) (at .fits .limit .fits)
     (sym (c .before .before .before .before .before .before .before .before .before .before .before .before .before .before .before .before .before .long-buffers .ensures) ∙ not-false _ (c .before .before .before .before .before .before .before .before .before .before .before .before .before .before .before .before .if1 .left))
     (sym (c .before .before .before .before .before .before .before .before .before .before .before .before .before .before .before .accept-two .ensures) ∙ c .before .before .before .before .before .before .before .before .before .before .before .before .before .accepted .given .1) _ _ refl refl
     (sym (c .before .before .before .before .before .before .before .before .before .before .before .without-or .ensures) ∙ c .before .before .before .before .before .before .before .before .before .before .if2 .taken) (c .before .before .before .before .before .before .expand-in .ensures)
@@ -32,8 +32,8 @@ returns-2 c =
 returns-3 : tie.Need-returns-3
 returns-3 c =
     let at = c .before .before .before .before .before .before .before .before .before .before .before .before .before .before .before .before .before .before .before .before .before .before .before in
-    expanded-rewritten _ _ _ _ _ _ (bytes-all (now (at .args .registry)) (λ i. c .before .before .before .before .before .before .before .before .before .before .before .before .before .before .before .before .before .before .before .before .before .before .shared-slice-known .given i .fits))
-    (bytes-all (now (at .args .condition)) (λ i. c .before .before .before .before .before .before .before .before .before .before .before .before .before .before .before .before .before .before .before .before .before .shared-slice-known2 .given i .fits)) (at .fits .limit .fits)
+    expanded-rewritten _ _ _ _ _ _ _ (bytes-all (now (at .args .registry)) (λ i. c .before .before .before .before .before .before .before .before .before .before .before .before .before .before .before .before .before .before .before .before .before .before .shared-slice-known .given i .fits))
+    (bytes-all (now (at .args .input)) (λ i. c .before .before .before .before .before .before .before .before .before .before .before .before .before .before .before .before .before .before .before .before .before .shared-slice-known2 .given i .fits)) (at .fits .limit .fits)
     (sym (c .before .before .before .before .before .before .before .before .before .before .before .before .before .before .before .before .before .long-buffers .ensures) ∙ not-false _ (c .before .before .before .before .before .before .before .before .before .before .before .before .before .before .before .before .if1 .left))
     (sym (c .before .before .before .before .before .before .before .before .before .before .before .before .before .before .before .accept-two .ensures) ∙ c .before .before .before .before .before .before .before .before .before .before .before .before .before .accepted .given .1) _ _ refl refl
     (c .before .before .before .before .before .before .expand-rewritten .ensures)
@@ -43,8 +43,8 @@ returns-4 : tie.Need-returns-4
 unfolding numberAlone
 returns-4 c =
     let at = c .before .before .before .before .before .before .before .before .before .before .before .before .before .before .before .before .before .before .before .before .before in
-    refused _ _ _ _ _ _ (bytes-all (now (at .args .registry)) (λ i. c .before .before .before .before .before .before .before .before .before .before .before .before .before .before .before .before .before .before .before .before .shared-slice-known .given i .fits))
-    (bytes-all (now (at .args .condition)) (λ i. c .before .before .before .before .before .before .before .before .before .before .before .before .before .before .before .before .before .before .before .shared-slice-known2 .given i .fits))
+    refused _ _ _ _ _ _ _ (bytes-all (now (at .args .registry)) (λ i. c .before .before .before .before .before .before .before .before .before .before .before .before .before .before .before .before .before .before .before .before .shared-slice-known .given i .fits))
+    (bytes-all (now (at .args .input)) (λ i. c .before .before .before .before .before .before .before .before .before .before .before .before .before .before .before .before .before .before .before .shared-slice-known2 .given i .fits))
     (sym (c .before .before .before .before .before .before .before .before .before .before .before .before .before .before .before .long-buffers .ensures) ∙ not-false _ (c .before .before .before .before .before .before .before .before .before .before .before .before .before .before .if1 .left))
     (sym (c .before .before .before .before .before .before .before .before .before .before .before .before .before .accept-two .ensures) ∙ c .before .before .before .before .before .before .before .before .before .before .before .accepted2 .given .1) (c .before .before .before .before .before .before .number-alone2 .ensures)
 

@@ -7,7 +7,7 @@ use Rattle.expansion.proofs.expand_in.Tie as tie
 
 returns : tie.Need-returns
 returns c =
-    answered _ _ _ _ _ _ _ _ _ _ (c .before .before .before .before .before .before .before .before .before .before .before .before .before .before .expand-tapes .kept .1 .1 .1 .1 .1 .0) (c .before .before .before .before .before .before .before .before .before .before .before .before .before .before .expand-tapes .kept .1 .1 .1 .1 .1 .1 .0)
+    answered _ _ _ _ _ _ _ _ _ _ _ (c .before .before .before .before .before .before .before .before .before .before .before .before .before .before .expand-tapes .kept .1 .1 .1 .1 .1 .1 .0) (c .before .before .before .before .before .before .before .before .before .before .before .before .before .before .expand-tapes .kept .1 .1 .1 .1 .1 .1 .1 .0)
     (c .before .before .before .before .before .before .before .before .before .before .before .before .before .before .expand-tapes .ensures) (c .before .before .before .before .before .before .answer-walk .ensures)
 
 pub expand-in-spec : {M : Type 1} → statement M

@@ -17,6 +17,6 @@ expand-named-spec =
     (λ c. search needs)
     (λ c. search needs)
     (λ c. search needs)
-    (λ c. named-walked _ _ _ _ _ _ _ _ (c .before .before .before .before .before .before .before .before .before .before .before .before .before .before .index .ensures) (c .before .before .before .before .before .before .before .before .before .before .check-names .ensures) (c .before .before .before .before .before .before .before .before .enum-told .given .1) (c .before .before .before .before .expand-whole .ensures))
+    (λ c. named-walked _ _ _ _ _ _ _ _ _ (c .before .before .before .before .before .before .before .before .before .before .before .before .before .before .index .ensures) (c .before .before .before .before .before .before .before .before .before .before .check-names .ensures) (c .before .before .before .before .before .before .before .before .enum-told .given .1) (c .before .before .before .before .expand-whole .ensures))
     (λ c. search needs)
-    (λ c. named-refused _ _ _ _ _ _ _ _ (c .before .before .before .before .before .before .before .index .ensures) (c .before .before .before .check-names .ensures) (c .before .f .given .1)))
+    (λ c. named-refused _ _ _ _ _ _ _ _ _ (c .before .before .before .before .before .before .before .index .ensures) (c .before .before .before .check-names .ensures) (c .before .f .given .1)))

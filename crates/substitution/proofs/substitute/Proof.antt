@@ -22,7 +22,7 @@ returns c =
 returns-2 : tie.Need-returns-2
 returns-2 c =
     let at = c .before .before .before .before .before .before .before .before .before .before .before .before .before .before .before .before .before .before .before .before .before .before .before in
-    substituted _ _ _ _ _ _ (bytes-all (now (at .args .definition)) (λ i. c .before .before .before .before .before .before .before .before .before .before .before .before .before .before .before .before .before .before .before .before .before .before .shared-slice-known .given i .fits))
+    substituted _ _ _ _ _ _ _ (bytes-all (now (at .args .definition)) (λ i. c .before .before .before .before .before .before .before .before .before .before .before .before .before .before .before .before .before .before .before .before .before .before .shared-slice-known .given i .fits))
     (bytes-all (now (at .args .call)) (λ i. c .before .before .before .before .before .before .before .before .before .before .before .before .before .before .before .before .before .before .before .before .before .shared-slice-known2 .given i .fits)) (at .fits .limit .fits)
     (sym (c .before .before .before .before .before .before .before .before .before .before .before .before .before .before .before .before .before .long-buffers .ensures) ∙ not-false _ (c .before .before .before .before .before .before .before .before .before .before .before .before .before .before .before .before .if1 .left))
     (sym (c .before .before .before .before .before .before .before .before .before .before .before .before .before .before .before .accept-two .ensures) ∙ c .before .before .before .before .before .before .before .before .before .before .before .before .before .accepted .given .1) _ refl
@@ -32,7 +32,7 @@ returns-2 c =
 returns-3 : tie.Need-returns-3
 returns-3 c =
     let at = c .before .before .before .before .before .before .before .before .before .before .before .before .before .before .before .before .before .before .before .before .before .before .before in
-    substituted-rewritten _ _ _ _ _ _ (bytes-all (now (at .args .definition)) (λ i. c .before .before .before .before .before .before .before .before .before .before .before .before .before .before .before .before .before .before .before .before .before .before .shared-slice-known .given i .fits))
+    substituted-rewritten _ _ _ _ _ _ _ (bytes-all (now (at .args .definition)) (λ i. c .before .before .before .before .before .before .before .before .before .before .before .before .before .before .before .before .before .before .before .before .before .before .shared-slice-known .given i .fits))
     (bytes-all (now (at .args .call)) (λ i. c .before .before .before .before .before .before .before .before .before .before .before .before .before .before .before .before .before .before .before .before .before .shared-slice-known2 .given i .fits)) (at .fits .limit .fits)
     (sym (c .before .before .before .before .before .before .before .before .before .before .before .before .before .before .before .before .before .long-buffers .ensures) ∙ not-false _ (c .before .before .before .before .before .before .before .before .before .before .before .before .before .before .before .before .if1 .left))
     (sym (c .before .before .before .before .before .before .before .before .before .before .before .before .before .before .before .accept-two .ensures) ∙ c .before .before .before .before .before .before .before .before .before .before .before .before .before .accepted .given .1) _ refl
@@ -43,7 +43,7 @@ returns-4 : tie.Need-returns-4
 unfolding numberAlone
 returns-4 c =
     let at = c .before .before .before .before .before .before .before .before .before .before .before .before .before .before .before .before .before .before .before .before .before in
-    refused _ _ _ _ _ _ (bytes-all (now (at .args .definition)) (λ i. c .before .before .before .before .before .before .before .before .before .before .before .before .before .before .before .before .before .before .before .before .shared-slice-known .given i .fits))
+    refused _ _ _ _ _ _ _ (bytes-all (now (at .args .definition)) (λ i. c .before .before .before .before .before .before .before .before .before .before .before .before .before .before .before .before .before .before .before .before .shared-slice-known .given i .fits))
     (bytes-all (now (at .args .call)) (λ i. c .before .before .before .before .before .before .before .before .before .before .before .before .before .before .before .before .before .before .before .shared-slice-known2 .given i .fits))
     (sym (c .before .before .before .before .before .before .before .before .before .before .before .before .before .before .before .long-buffers .ensures) ∙ not-false _ (c .before .before .before .before .before .before .before .before .before .before .before .before .before .before .if1 .left))
     (sym (c .before .before .before .before .before .before .before .before .before .before .before .before .before .accept-two .ensures) ∙ c .before .before .before .before .before .before .before .before .before .before .before .accepted2 .given .1) (c .before .before .before .before .before .before .number-alone2 .ensures)

@@ -7,7 +7,7 @@ use Rattle.substitution.proofs.substitute_in.Tie as tie
 
 returns : tie.Need-returns
 returns c =
-    answered _ _ _ _ _ _ _ _ _ (c .before .before .before .before .before .before .before .before .before .before .before .before .substitute-tapes .kept .1 .1 .1 .1 .1 .0) (c .before .before .before .before .before .before .before .before .before .before .before .before .substitute-tapes .ensures)
+    answered _ _ _ _ _ _ _ _ _ _ (c .before .before .before .before .before .before .before .before .before .before .before .before .substitute-tapes .kept .1 .1 .1 .1 .1 .1 .0) (c .before .before .before .before .before .before .before .before .before .before .before .before .substitute-tapes .ensures)
     (c .before .before .before .before .before .before .answer-walk .ensures)
 
 pub substitute-in-spec : {M : Type 1} → statement M

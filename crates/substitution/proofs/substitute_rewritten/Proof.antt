@@ -10,7 +10,7 @@ use Rattle.substitution.proofs.substitute_rewritten.Tie as tie
 returns : tie.Need-returns
 returns c =
     let a = c .before .before .before .before .before .before .before .before .before .before .before .before .before .before .before .before .before .before .before .before .before .before .before .args in
-    answered-rewritten _ (now (a .definition)) (now (a .call)) (replicate 12296 0) (a .d) (a .c) _ _ (c .before .before .before .before .before .before .before .before .before .before .before .before .before .before .before .before .rewrite .ensures) (c .before .before .before .before .before .before .before .before .before .before .before .before .before .rewrite2 .ensures)
+    answered-rewritten _ _ (now (a .definition)) (now (a .call)) (replicate 12296 0) (a .d) (a .c) _ _ (c .before .before .before .before .before .before .before .before .before .before .before .before .before .before .before .before .rewrite .ensures) (c .before .before .before .before .before .before .before .before .before .before .before .before .before .rewrite2 .ensures)
     (c .before .before .before .before .before .before .substitute-in .ensures)
 
 pub substitute-rewritten-spec : {M : Type 1} → statement M
