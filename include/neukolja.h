@@ -10,8 +10,8 @@
  * negations. The largest figures hold of the tape so rewritten too, which has three entries more for each 2 and nests two levels
  * deeper at each, and so do sizes, charges and messages. No result holds a 2.
  *
- * Stack: the walks recurse as deep as tapes nest. Measured at the deepest inputs on x86-64 (`bench stack`): neukolja_check 70,847
- * bytes, neukolja_registry 14,223, neukolja_substitute 146,415, neukolja_expand 299,119, neukolja_older 22,447. A linker script or
+ * Stack: the walks recurse as deep as tapes nest. Measured at the deepest inputs on x86-64 (`bench stack`): neukolja_check 70,879
+ * bytes, neukolja_registry 14,271, neukolja_substitute 146,447, neukolja_expand 299,391, neukolja_older 22,479. A linker script or
  * a thread must provide it, with what the caller itself needs and some room on top: nothing checks it while a function runs.
  *
  * A function keeps nothing between calls, so several threads may call it at once, each with buffers of its own. What a call
@@ -34,6 +34,10 @@ extern "C" {
 
 /* the largest tape: 8 bytes, 9 for each of 1,024 entries, and 3,072 of text */
 #define NEUKOLJA_TAPE_SIZE 12296u
+
+/* The counts of a registry: for each definition, in the registry's order, how many of its calls were substituted. A registry has
+ * 255 definitions at the most, and a count stays at 4,294,967,295. */
+#define NEUKOLJA_COUNTS_LENGTH 255u
 
 /* the places of an answer */
 enum {
@@ -86,10 +90,11 @@ void neukolja_check(const uint8_t *definition, size_t definition_length,
                     uint64_t answer[5]);
 
 /* The names of a registry, a tape whose root is a list of 60: reserved ones, and ones that stand twice. Nothing is charged.
- * message: the message of a refusal, then zeros to the end; all zeros on success. */
+ * message: the message of a refusal, then zeros to the end; all zeros on success.
+ * counts:  the counts of a registry just built: all zeros, whatever the answer. */
 void neukolja_registry(const uint8_t *registry, size_t registry_length,
                        uint8_t *message, size_t message_length,
-                       uint64_t answer[5]);
+                       uint32_t counts[255], uint64_t answer[5]);
 
 /* One definition applied to one call, a tape whose root is 54; the names are not compared. At most `limit` nodes are charged.
  * `file` is the number of the call's file, which the names of `$` binders end in; with 0 they have none (see neukolja_expand).
@@ -109,14 +114,17 @@ void neukolja_substitute(const uint8_t *definition, size_t definition_length,
  * conditions of several files may be joined: give each file a number of its own. A name has at most 75 bytes, or 81.
  * result:  the tape of the condition, then zeros to the end; all zeros on a refusal.
  * work:    all zeros afterwards.
- * message: the message of a refusal, then zeros to the end; all zeros on success. */
+ * message: the message of a refusal, then zeros to the end; all zeros on success.
+ * counts:  for each definition, in the registry's order, one more for each of its calls that was substituted: calls inside calls
+ *          and those in unused arguments too. A refusal changes none, and the counts behind the last definition are left as they
+ *          are. neukolja_registry gives the first; hand on what each expansion leaves. */
 void neukolja_expand(const uint8_t *registry, size_t registry_length,
                      const uint8_t *condition, size_t condition_length,
                      uint32_t limit, uint16_t file,
                      uint8_t *result, size_t result_length,
                      uint8_t *work, size_t work_length,
                      uint8_t *message, size_t message_length,
-                     uint64_t answer[5]);
+                     uint32_t counts[255], uint64_t answer[5]);
 
 /* The older tape, for heads that know no weeks: a tape of a condition, a definition (60), a call (54), a list of 60 or a lone term
  * (20 to 33; the first code tells which), each interval in weeks (64) turned into days (51) at seven times the amount. A tape

@@ -69,11 +69,15 @@ pub fn once(case: &Case, side: Side, machine: Option<Box<dyn Machine>>) {
     }
 }
 
-/// In buffers of the sizes that the case names.
+/// In buffers of the sizes that the case names. The counts are on the heap as these are: this frame is part of what
+/// `bench stack` measures.
 pub fn by_archive(case: &Case, machine: &mut dyn Machine) {
     let [mut result, mut work, mut message] = case.sizes.map(|size| vec![1; size]);
-    let mut answer = [0; 5];
-    machine.run(case, Lent { result: &mut result, work: &mut work, message: &mut message, answer: &mut answer });
+    let (mut counts, mut answer) = (Box::new(case.counts), [0; 5]);
+    machine.run(
+        case,
+        Lent { result: &mut result, work: &mut work, message: &mut message, counts: &mut counts, answer: &mut answer },
+    );
     black_box(answer);
 }
 

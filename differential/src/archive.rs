@@ -14,10 +14,10 @@ pub fn linked() -> Option<Box<dyn Machine>> {
 
 #[cfg(archive)]
 mod functions {
-    use crate::case::{Case, Operation};
+    use crate::case::{Case, Counts, Operation};
     use crate::compare::{Lent, Machine};
 
-    // In C a slice is two parameters, its pointer and its length; the answer is a `&mut [u64; 5]`, the pointer alone.
+    // In C a slice is two parameters, its pointer and its length; the counts and the answer are arrays, the pointer alone.
     #[rustfmt::skip]
     unsafe extern "C" {
         #[cfg(archive_has = "check")]
@@ -26,7 +26,8 @@ mod functions {
         );
         #[cfg(archive_has = "registry")]
         fn neukolja_registry(
-            registry: *const u8, registry_len: usize, message: *mut u8, message_len: usize, answer: *mut [u64; 5],
+            registry: *const u8, registry_len: usize, message: *mut u8, message_len: usize, counts: *mut Counts,
+            answer: *mut [u64; 5],
         );
         #[cfg(archive_has = "substitute")]
         fn neukolja_substitute(
@@ -38,7 +39,7 @@ mod functions {
         fn neukolja_expand(
             registry: *const u8, registry_len: usize, condition: *const u8, condition_len: usize, limit: u32, file: u16,
             result: *mut u8, result_len: usize, work: *mut u8, work_len: usize, message: *mut u8, message_len: usize,
-            answer: *mut [u64; 5],
+            counts: *mut Counts, answer: *mut [u64; 5],
         );
         #[cfg(archive_has = "older")]
         fn neukolja_older(
@@ -65,14 +66,16 @@ mod functions {
             #[allow(unused_variables)]
             let b = case.tapes.get(1).map_or(&[][..], Vec::as_slice);
             #[allow(unused_variables)]
-            let Lent { result: r, work: w, message: m, answer } = lent;
+            let Lent { result: r, work: w, message: m, counts, answer } = lent;
             // SAFETY: every pointer comes with its length from a slice that outlives the call, and no two overlap.
             unsafe {
                 match case.operation {
                     #[cfg(archive_has = "check")]
                     Operation::Check => neukolja_check(a.as_ptr(), a.len(), m.as_mut_ptr(), m.len(), answer),
                     #[cfg(archive_has = "registry")]
-                    Operation::Registry => neukolja_registry(a.as_ptr(), a.len(), m.as_mut_ptr(), m.len(), answer),
+                    Operation::Registry => {
+                        neukolja_registry(a.as_ptr(), a.len(), m.as_mut_ptr(), m.len(), counts, answer)
+                    }
                     #[cfg(archive_has = "substitute")]
                     Operation::Substitute => neukolja_substitute(
                         a.as_ptr(), a.len(), b.as_ptr(), b.len(), limit, case.file,
@@ -81,7 +84,7 @@ mod functions {
                     #[cfg(archive_has = "expand")]
                     Operation::Expand => neukolja_expand(
                         a.as_ptr(), a.len(), b.as_ptr(), b.len(), limit, case.file,
-                        r.as_mut_ptr(), r.len(), w.as_mut_ptr(), w.len(), m.as_mut_ptr(), m.len(), answer,
+                        r.as_mut_ptr(), r.len(), w.as_mut_ptr(), w.len(), m.as_mut_ptr(), m.len(), counts, answer,
                     ),
                     #[cfg(archive_has = "older")]
                     Operation::Older => neukolja_older(a.as_ptr(), a.len(), r.as_mut_ptr(), r.len(), answer),

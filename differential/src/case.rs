@@ -56,11 +56,20 @@ impl Operation {
         }
     }
 
+    /// Whether the operation hands back a registry state.
+    pub fn has_counts(self) -> bool {
+        matches!(self, Operation::Registry | Operation::Expand)
+    }
+
     /// Whether the operation walks a body, with a limit for what is charged.
     pub fn charges(self) -> bool {
         matches!(self, Operation::Substitute | Operation::Expand)
     }
 }
+
+/// The most definitions that a registry's tape has room for. The registry state has a count for each.
+pub const COUNTS: usize = 255;
+pub type Counts = [u32; COUNTS];
 
 const LEAST_RESULT: usize = 12_296;
 const LEAST_WORK: usize = 65_536;
@@ -73,15 +82,17 @@ pub struct Case {
     pub limit: u32,
     /// The number of the file that the call or the condition is from; 0 where no name is generated.
     pub file: u16,
+    /// The registry state that is given; zeros where the operation has none.
+    pub counts: Counts,
     pub tapes: Vec<Vec<u8>>,
     /// Sizes of the result, work and message buffers; 0 for one that the operation has not.
     pub sizes: [usize; 3],
 }
 
 impl Case {
-    /// From file 0, with buffers of the least sizes.
+    /// From file 0, with a registry just built and buffers of the least sizes.
     pub fn new(operation: Operation, limit: u32, tapes: Vec<Vec<u8>>) -> Case {
-        Case { operation, limit, file: 0, tapes, sizes: operation.buffers() }
+        Case { operation, limit, file: 0, counts: [0; COUNTS], tapes, sizes: operation.buffers() }
     }
 
     /// The bytes that this case takes in a list of vectors, its answer aside.
@@ -91,7 +102,7 @@ impl Case {
 }
 
 /// What an operation returns, and what its buffers hold before the zeros. The work buffer is always zero.
-#[derive(Clone, Debug, Default, PartialEq, Eq)]
+#[derive(Clone, Debug, PartialEq, Eq)]
 pub struct Answer {
     pub number: u64,
     pub start: u64,
@@ -99,9 +110,16 @@ pub struct Answer {
     pub charged: u64,
     pub result: Vec<u8>,
     pub message: Vec<u8>,
+    /// The registry state that is handed back.
+    pub counts: Counts,
 }
 
 impl Answer {
+    /// Success, with nothing charged, nothing written and these counts.
+    pub fn success(counts: Counts) -> Answer {
+        Answer { number: 0, start: 0, end: 0, charged: 0, result: vec![], message: vec![], counts }
+    }
+
     /// The five numbers: number, start, end, message length, charged.
     pub fn numbers(&self) -> [u64; 5] {
         [self.number, self.start, self.end, self.message.len() as u64, self.charged]

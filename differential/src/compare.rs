@@ -1,6 +1,6 @@
 //! The three that are compared: the model, upstream, and a machine (the archive, or the model behind the same calls).
 
-use crate::case::{Answer, Case, Operation};
+use crate::case::{Answer, COUNTS, Case, Counts, Operation};
 use crate::model::{self, Notes, TooLarge};
 use crate::tape::{self, LARGEST, Node, Sort};
 use crate::upstream::{self, End, Reach, Run};
@@ -66,6 +66,9 @@ fn hear_upstream(case: &Case, answer: &Answer, notes: &Notes) -> Result<Witness,
     match &notes.too_large {
         None => {
             agrees(&run(whole), answer, notes)?;
+            if let (Operation::Expand, [definitions, condition], 0) = (case.operation, &trees[..], answer.number) {
+                same("the calls", &upstream::calls(definitions, condition), &Ok(notes.calls.clone()))?;
+            }
             Ok(if trees == notes.trees { Witness::Upstream } else { Witness::UpstreamWithDays })
         }
         Some(TooLarge::Whole { result }) => made(&run(whole), answer, result).map(|()| Witness::UpstreamMadeIt),
@@ -163,6 +166,7 @@ pub struct Lent<'a> {
     pub result: &'a mut [u8],
     pub work: &'a mut [u8],
     pub message: &'a mut [u8],
+    pub counts: &'a mut Counts,
     pub answer: &'a mut [u64; 5],
 }
 
@@ -215,12 +219,12 @@ impl Framed {
     }
 }
 
-/// Runs a machine on a case and compares the five numbers and every byte of the three buffers.
+/// Runs a machine on a case and compares the five numbers, every byte of the three buffers and the counts.
 pub fn judge(machine: &mut dyn Machine, case: &Case, answer: &Answer) -> Result<(), String> {
     let [mut result, mut work, mut message] = case.sizes.map(Framed::new);
-    let mut numbers = [u64::MAX; 5];
-    machine
-        .run(case, Lent { result: result.inner(), work: work.inner(), message: message.inner(), answer: &mut numbers });
+    let (mut numbers, mut counts) = ([u64::MAX; 5], case.counts);
+    let [r, w, m] = [&mut result, &mut work, &mut message].map(Framed::inner);
+    machine.run(case, Lent { result: r, work: w, message: m, counts: &mut counts, answer: &mut numbers });
     if numbers != answer.numbers() {
         return Err(format!(
             "number, start, end, message length, charged are {numbers:?}, expected {:?}",
@@ -229,5 +233,9 @@ pub fn judge(machine: &mut dyn Machine, case: &Case, answer: &Answer) -> Result<
     }
     result.holds("result", &answer.result)?;
     work.holds("work", &[])?;
-    message.holds("message", &answer.message)
+    message.holds("message", &answer.message)?;
+    match (0..COUNTS).find(|i| case.operation.has_counts() && counts[*i] != answer.counts[*i]) {
+        Some(i) => Err(format!("count {i} is {}, expected {}", counts[i], answer.counts[i])),
+        None => Ok(()),
+    }
 }

@@ -1,7 +1,7 @@
 //! Cases from a seed.
 
 use crate::brim::{self, FIGURES, Figure};
-use crate::case::{Case, OPERATIONS, Operation};
+use crate::case::{Case, Counts, OPERATIONS, Operation};
 use crate::damage::damage;
 use crate::model::{self, Walk};
 use crate::random::Random;
@@ -423,10 +423,25 @@ fn on_tapes(random: &mut Random, operation: Operation, file: u16, input: &Input)
     let tapes = [Some(&input.first), input.second.as_ref()].into_iter().flatten().map(tape::encode).collect();
     let limit_if_any = if operation.charges() { u32::MAX } else { 0 };
     let mut case = Case { file, ..Case::new(operation, limit_if_any, tapes) };
+    if operation.has_counts() {
+        case.counts = counts(random);
+    }
     if operation.charges() && random.chance(55) {
         case.limit = limit(random, model::answer(&case).0.charged as usize) as u32;
     }
     case
+}
+
+/// A registry state: just built, after some calls, close to what a count can hold, anything.
+fn counts(random: &mut Random) -> Counts {
+    let kind = random.weighted(&[30, 25, 25, 20]);
+    let mut one = || match kind {
+        0 => 0,
+        1 => random.below(9) as u32,
+        2 => u32::MAX - random.below(4) as u32,
+        _ => random.number() as u32,
+    };
+    std::array::from_fn(|_| one())
 }
 
 /// A limit at or below what is charged without one, or any.

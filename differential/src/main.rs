@@ -114,7 +114,8 @@ fn replay(path: &str) -> Result<bool, String> {
         let outcome = compare_all(&expected.case, &mut machine, &mut tally).and_then(|answer| {
             let as_listed = answer.numbers() == expected.numbers
                 && vectors::without_zeros(&answer.result) == expected.result
-                && vectors::without_zeros(&answer.message) == expected.message;
+                && vectors::without_zeros(&answer.message) == expected.message
+                && (answer.counts == expected.counts || !expected.case.operation.has_counts());
             if as_listed { Ok(()) } else { Err(format!("{:?}, the list has {:?}", answer.numbers(), expected.numbers)) }
         });
         if let Err(difference) = outcome {
@@ -147,6 +148,9 @@ fn show(seed: u64, index: u64) -> bool {
     }
     let (answer, notes) = model::answer(&case);
     println!("number, start, end, message length, charged: {:?}", answer.numbers());
+    if case.operation.has_counts() {
+        println!("counts {:?}\nbecome {:?}", case.counts, answer.counts);
+    }
     println!("{}", String::from_utf8_lossy(&answer.message));
     notes.result.iter().for_each(|tree| print_tree(tree, 0));
     true

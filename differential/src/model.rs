@@ -3,7 +3,7 @@
 //! It is there for what upstream does not have: acceptance, the limits, and the order among the refusals. Since a
 //! limit can end a walk anywhere, the walks are here too; wherever no limit comes, upstream has to agree with them.
 
-use crate::case::{Answer, Case, Operation};
+use crate::case::{Answer, COUNTS, Case, Operation};
 use crate::message;
 use crate::tape::{self, LARGEST, LARGEST_CALLS, Largest, Measure, Node, Over, Sort, UNBOUNDED, Unread};
 use std::collections::BTreeSet;
@@ -48,6 +48,8 @@ pub struct Notes {
     pub too_large: Option<TooLarge>,
     /// How many charges were made.
     pub charges: usize,
+    /// The definitions whose calls an expansion that succeeded has substituted, by their places in the registry.
+    pub calls: Vec<usize>,
     /// Why it is 1, 2 or 3; for 3 by how much.
     pub reason: &'static str,
     pub over_by: usize,
@@ -81,9 +83,12 @@ pub fn answer(case: &Case) -> (Answer, Notes) {
     }
     notes.measured = walk.measured;
     notes.events = walk.events;
-    let mut answer = Answer { charged: walk.charged, ..Answer::default() };
+    let given = if case.operation == Operation::Registry { [0; COUNTS] } else { case.counts };
+    let mut answer = Answer { charged: walk.charged, ..Answer::success(given) };
     match outcome {
         Ok(result) => {
+            notes.calls = walk.calls;
+            notes.calls.iter().for_each(|i| answer.counts[*i] = answer.counts[*i].saturating_add(1));
             answer.result = result.as_ref().map(tape::encode).unwrap_or_default();
             notes.result = result;
         }
@@ -248,6 +253,8 @@ pub struct Walk {
     largest: Largest,
     pub charged: u64,
     pub charges: usize,
+    /// The definitions whose calls were substituted.
+    calls: Vec<usize>,
     pub too_large: Option<TooLarge>,
     /// The measures of every 54 with its expanded arguments, and of every outcome, in the order they were taken.
     pub measured: Vec<(Measured, Measure)>,
@@ -299,6 +306,7 @@ impl Walk {
             largest,
             charged: 0,
             charges: 0,
+            calls: vec![],
             too_large: None,
             measured: vec![],
             events: BTreeSet::new(),
@@ -450,9 +458,10 @@ impl Walk {
     fn expand_call(&mut self, call: &Node, as_value: bool, definitions: &[Node]) -> Result<Node, Refusal> {
         let span = call.value;
         let own = name(call);
-        let Some(definition) = definitions.iter().find(|d| name(d) == own) else {
+        let Some(place) = definitions.iter().position(|d| name(d) == own) else {
             return refuse(30, span, message::unknown_macro(own));
         };
+        let definition = &definitions[place];
         match (body(definition).code, as_value) {
             (61, _) => {
                 return refuse_for((if as_value { 36 } else { 11 }, 0), 31, span, message::cedar_macro(own, as_value));
@@ -477,6 +486,7 @@ impl Walk {
             self.too_large = Some(TooLarge::Outcome { definition, call, outcome, charged_before });
             return refuse(3, span, String::new());
         }
+        self.calls.push(place);
         Ok(outcome)
     }
 

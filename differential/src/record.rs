@@ -1,7 +1,7 @@
 //! The fixed list: cases that together show everything worth showing, as few bytes as may be.
 
 use crate::bench_cases;
-use crate::case::{Answer, Case, Operation};
+use crate::case::{Answer, COUNTS, Case, Counts, Operation};
 use crate::compare;
 use crate::generate;
 use crate::model::{self, Notes};
@@ -74,6 +74,8 @@ enum Shows {
     Root(u8, bool),
     /// An interval in weeks, behind a 57 or in a within, by what its days are.
     Weeks(bool, &'static str),
+    /// Something about the counts.
+    Counts(&'static str),
     /// Exactly the limit was charged.
     WholeBudget,
     /// Buffers longer than the least, by whether there was a message.
@@ -120,8 +122,10 @@ impl Candidate {
 
     fn cost(&self) -> usize {
         // what a vector has beside its tapes and buffers
-        const FRAME: usize = 73;
-        FRAME + self.case.bytes() + self.answer.result.len() + self.answer.message.len()
+        const FRAME: usize = 100;
+        let counts = |counts: &Counts| 4 * counts.iter().rposition(|c| *c != 0).map_or(0, |i| i + 1);
+        let counts = counts(&self.case.counts) + counts(&self.answer.counts);
+        FRAME + self.case.bytes() + self.answer.result.len() + self.answer.message.len() + counts
     }
 }
 
@@ -209,6 +213,9 @@ fn shows(case: &Case, answer: &Answer, notes: &Notes) -> Vec<Shows> {
         all.push(Shows::Root(tree.code, success));
         tree.visit(&mut |node| all.extend(weeks_below(node)));
     }
+    if case.operation.has_counts() {
+        all.extend(of_counts(case, answer, notes).into_iter().map(Shows::Counts));
+    }
     if answer.number == 10 {
         all.push(Shows::Reserved(answer.message.clone()));
     }
@@ -283,6 +290,33 @@ fn at_limits(tree: &Node) -> Vec<&'static str> {
         _ => {}
     });
     all
+}
+
+fn of_counts(case: &Case, answer: &Answer, notes: &Notes) -> Vec<&'static str> {
+    let mut counted = [0; COUNTS];
+    notes.calls.iter().for_each(|i| counted[*i] += 1);
+    let definitions = notes.trees.first().map_or(0, |registry| registry.children.len());
+    let any = |test: &dyn Fn(usize) -> bool| (0..COUNTS).any(test);
+    let kinds = [
+        (any(&|i| counted[i] > 0), "a call"),
+        (any(&|i| counted[i] > 1), "several calls of one macro"),
+        (counted.iter().filter(|n| **n > 0).count() > 1, "calls of several macros"),
+        (any(&|i| counted[i] > 0 && case.counts[i] == u32::MAX), "a count at its end"),
+        (
+            any(&|i| counted[i] > 0 && answer.counts[i] == u32::MAX && case.counts[i] < u32::MAX),
+            "a count that comes to its end",
+        ),
+        (any(&|i| counted[i] > 1 && u32::MAX - case.counts[i] == 1), "a count that would pass its end"),
+        (counted[COUNTS - 1] > 0, "a call of the last definition"),
+        (
+            notes.result.is_some() && any(&|i| i >= definitions && case.counts[i] > 0),
+            "counts behind the last definition",
+        ),
+        (notes.charges > 0 && answer.number != 0 && case.counts[0] > 0, "a refusal after a charge"),
+        (answer.number != 0 && case.counts[0] > 0, "a refusal"),
+        (case.operation == Operation::Registry && answer.number == 0 && case.counts[0] > 0, "a registry built anew"),
+    ];
+    kinds.into_iter().filter(|(shown, _)| *shown).map(|(_, kind)| kind).collect()
 }
 
 fn weeks_below(node: &Node) -> impl Iterator<Item = Shows> {

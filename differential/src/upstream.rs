@@ -60,6 +60,11 @@ pub fn expand(definitions: &Node, condition: &Node, reach: Reach) -> Run {
     ran(adapter::expand(&macro_defs(definitions), tree, reach), |c| condition_node(&c))
 }
 
+/// The places of the definitions whose calls an expansion that succeeds has substituted.
+pub fn calls(definitions: &Node, condition: &Node) -> Result<Vec<usize>, String> {
+    adapter::charged_bodies(&macro_defs(definitions), self::condition(condition)).map_err(|e| format!("{e:?}"))
+}
+
 // ------------------------------------------------------------------ names of other files
 
 /// The tree with another start for every 54, so that a run on it gives every generated name another number.

@@ -1,9 +1,9 @@
 //! Lists of cases with their answers, in the format that README.md gives.
 
-use crate::case::{Answer, Case, OPERATIONS, Operation};
+use crate::case::{Answer, COUNTS, Case, Counts, OPERATIONS, Operation};
 
 const MARK: &[u8; 8] = b"ORACLEV3";
-/// Lists from elsewhere, with another spelling of what no operation here has; read and not written.
+/// Lists from elsewhere, with another spelling of the counts; read and not written.
 const OTHER_MARK: &[u8; 8] = b"ORACLEV2";
 
 pub fn write(vectors: &[(Case, Answer)]) -> Vec<u8> {
@@ -21,7 +21,7 @@ pub fn write(vectors: &[(Case, Answer)]) -> Vec<u8> {
         out.extend([0; 16]);
         put_bytes(&mut out, without_zeros(&answer.result));
         put_bytes(&mut out, without_zeros(&answer.message));
-        (0..2).for_each(|_| put_bytes(&mut out, &[]));
+        [&case.counts, &answer.counts].into_iter().for_each(|counts| put_counts(&mut out, counts));
     }
     out
 }
@@ -35,18 +35,25 @@ fn put_bytes(out: &mut Vec<u8>, bytes: &[u8]) {
     out.extend_from_slice(bytes);
 }
 
+fn put_counts(out: &mut Vec<u8>, counts: &Counts) {
+    let last = counts.iter().rposition(|c| *c != 0).map_or(0, |i| i + 1);
+    let bytes: Vec<u8> = counts[..last].iter().flat_map(|c| c.to_le_bytes()).collect();
+    put_bytes(out, &bytes);
+}
+
 /// What stands before the zeros at the end of a buffer.
 pub fn without_zeros(bytes: &[u8]) -> &[u8] {
     let end = bytes.iter().rposition(|b| *b != 0).map_or(0, |i| i + 1);
     &bytes[..end]
 }
 
-/// A case with what a list expects of it: the five numbers, and the two buffers without the zeros at their ends.
+/// A case with what a list expects of it: the five numbers, the two buffers without the zeros at their ends, the counts.
 pub struct Expected {
     pub case: Case,
     pub numbers: [u64; 5],
     pub result: Vec<u8>,
     pub message: Vec<u8>,
+    pub counts: Counts,
 }
 
 pub fn read(bytes: &[u8]) -> Result<Vec<Expected>, String> {
@@ -89,6 +96,17 @@ impl<'a> Reader<'a> {
         OPERATIONS.into_iter().find(|o| o.number() == number).ok_or(format!("no operation {number}"))
     }
 
+    /// Counts in so many bytes, and zeros behind them.
+    fn counts(&mut self, length: usize) -> Result<Counts, String> {
+        let mut counts = [0; COUNTS];
+        let (words, rest) = self.take(length)?.as_chunks::<4>();
+        if !rest.is_empty() || words.len() > COUNTS {
+            return Err(format!("counts of {length} bytes"));
+        }
+        words.iter().zip(&mut counts).for_each(|(word, count)| *count = u32::from_le_bytes(*word));
+        Ok(counts)
+    }
+
     /// What no operation here has must be 0.
     fn zeros(&mut self, n: usize) -> Result<(), String> {
         let known = self.take(n)?.iter().all(|b| *b == 0);
@@ -102,15 +120,17 @@ impl<'a> Reader<'a> {
         let count = self.take(1)?[0];
         let tapes = (0..count).map(|_| self.bytes()).collect::<Result<_, _>>()?;
         let sizes = [self.u32()? as usize, self.u32()? as usize, self.u32()? as usize];
-        if !ours {
-            self.zeros(1)?;
-        }
+        let given = !ours && self.take(1)?[0] == 1;
+        let mut counts = if given { self.counts(4 * COUNTS)? } else { [0; COUNTS] };
         let numbers = [self.u64()?, self.u64()?, self.u64()?, self.u64()?, self.u64()?];
         self.zeros(16)?;
         let (result, message) = (self.bytes()?, self.bytes()?);
         if ours {
-            self.zeros(8)?;
+            let length = self.u32()? as usize;
+            counts = self.counts(length)?;
         }
-        Ok(Expected { case: Case { operation, limit, file, tapes, sizes }, numbers, result, message })
+        let length = if ours { self.u32()? as usize } else { 4 * COUNTS * usize::from(given) };
+        let case = Case { operation, limit, file, counts, tapes, sizes };
+        Ok(Expected { case, numbers, result, message, counts: self.counts(length)? })
     }
 }

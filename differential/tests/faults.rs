@@ -23,6 +23,7 @@ impl Machine for Faulty {
         fill(lent.result, &answer.result, self.rest);
         fill(lent.message, &answer.message, self.rest);
         lent.work.fill(self.work);
+        *lent.counts = answer.counts;
         *lent.answer = answer.numbers();
     }
 }
@@ -52,10 +53,10 @@ fn the_model_itself_passes() {
 
 #[test]
 fn wrong_answers_are_noticed() {
-    let changes: [(&str, Change); 9] = [
+    let changes: [(&str, Change); 12] = [
         ("refuses each call", |case, answer| {
             if case.operation.charges() && answer.charged > 0 {
-                *answer = Answer { number: 30, ..Answer::default() };
+                *answer = Answer { number: 30, ..Answer::success(case.counts) };
             }
         }),
         ("returns a fixed tree", |_, answer| {
@@ -76,7 +77,7 @@ fn wrong_answers_are_noticed() {
         }),
         ("passes every definition", |case, answer| {
             if case.operation == Operation::Check && answer.number >= 20 {
-                *answer = Answer::default();
+                *answer = Answer::success(case.counts);
             }
         }),
         ("refuses every definition", |case, answer| {
@@ -87,6 +88,22 @@ fn wrong_answers_are_noticed() {
         ("says 2 for 3", |_, answer| {
             if answer.number == 3 {
                 answer.number = 2;
+            }
+        }),
+        ("counts on a refusal", |case, answer| {
+            if case.operation == Operation::Expand && answer.number >= 30 {
+                answer.counts[0] = answer.counts[0].wrapping_add(1);
+            }
+        }),
+        ("counts past the end", |case, answer| {
+            for (count, given) in answer.counts.iter_mut().zip(case.counts) {
+                *count = if *count == given && given == u32::MAX && answer.charged > 0 { 0 } else { *count };
+            }
+        }),
+        ("forgets a call", |case, answer| {
+            let changed = |i: &usize| answer.counts[*i] > case.counts[*i];
+            if let Some(i) = (0..answer.counts.len()).find(changed) {
+                answer.counts[i] -= 1;
             }
         }),
         ("has a wrong letter in a message", |_, answer| {

@@ -34,7 +34,7 @@ fn expand<'a>(case: u32, registry: &'a [u8], condition: &'a [u8]) {
     let mut result = [0u8; 12296];
     let mut work = [0u8; 65536];
     let mut message = [0u8; 2048];
-    let answer = expansion::expand(
+    let answer = expansion::expand_lent(
         registry,
         condition,
         limit_of(case),
@@ -42,6 +42,7 @@ fn expand<'a>(case: u32, registry: &'a [u8], condition: &'a [u8]) {
         &mut result,
         &mut work,
         &mut message,
+        &mut [],
     );
     print(case, b" ");
     print(answer.number, b" ");

@@ -11,6 +11,8 @@ pub mod Names
 pub mod LengthenedSubstitute
 pub mod Lengthened
 pub mod Size
+pub mod Collected
+pub mod Counts
 pub mod Decimal
 mod Good
 pub mod Values

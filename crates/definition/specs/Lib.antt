@@ -7,7 +7,10 @@ pub mod Check
 pub mod Substitute
 pub mod Registry
 pub mod Expand
+pub mod Calls
+pub mod Collect
 pub mod Answers
+pub mod Counts
 pub mod Demand3
 pub mod Residue
 pub mod Names

@@ -1,4 +1,5 @@
 -- The laws that several proofs of the crate cite.
+mod Counts
 mod Operation
 mod Steps
 mod TreesWhole

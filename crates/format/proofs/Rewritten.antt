@@ -241,6 +241,14 @@ module _ {A : Type 0} (root : Root A) (r : Rewrites root) where
             taken none k = refl
             taken (some x) k = ended st (build-spells es st e) (x .0) (x .1) k
 
+    -- a tree within the limits that holds no Or is read from its tape
+    pub on-tape-read : {bytes : List ℕ} {a : A} → OnTape root bytes a → All NoOr (root .flat a) → read root bytes ≡ Reading.accepted a
+    unfolding read rewrite fits
+    on-tape-read {bytes} {a} t h =
+        rw (on-tape-accepted root law t, r .kept a h)
+        (within-limits (fitsSizes (length (root .flat a)) (length (textOf (root .flat a))) && small root (root .flat a) a) a
+        (and-both (fitsSizes (length (root .flat a)) (length (textOf (root .flat a)))) _ (t .range .sizes) (t .small)))
+
     module _ (bytes : List ℕ) (q : Bytes bytes) where
       in-one-scan : read root bytes ≡ mapReading (rewritten root) (accept (weighted root) bytes)
       unfolding read accept rewrite mapReading readTree
@@ -270,24 +278,12 @@ module _ {A : Type 0} (root : Root A) (r : Rewrites root) where
             small = and-right (fitsSizes (length es) (length (textOf es))) _ (f .fitting);
           }
 
-      -- what is accepted and holds no Or is read as it is
-      read-plain : (more : List ℕ) (a : A) → OnTape root more a → All NoOr (root .flat a) → accept root more ≡ Reading.accepted a
-          → read root more ≡ Reading.accepted a
-      unfolding read rewrite fits
-      read-plain more a t h e =
-          rw (e, r .kept a h)
-          (within-limits (fitsSizes (length (root .flat a)) (length (textOf (root .flat a))) && small root (root .flat a) a) a
-          (and-both (fitsSizes (length (root .flat a)) (length (textOf (root .flat a)))) _ (t .range .sizes) (t .small)))
-
       pub read-as : ReadAs root bytes
       read-as =
           record {
             one-scan = in-one-scan;
             accepted-again = λ a h. on-tape-accepted root law (read-on-tape a h);
-            read-again = λ a h.
-                let t = read-on-tape a h in
-                read-plain (encode (root .flat a)) a t (read-no-or bytes a h) (on-tape-accepted root law t);
+            read-again = λ a h. on-tape-read (read-on-tape a h) (read-no-or bytes a h);
             no-or = λ a h. no-holds (read-no-or bytes a h);
-            as-accepted = λ a n h.
-                read-plain bytes a (accepted-on-tape root (law .spells) bytes q a h) (holds-no (root .flat a) n) h;
+            as-accepted = λ a n h. on-tape-read (accepted-on-tape root (law .spells) bytes q a h) (holds-no (root .flat a) n);
           }

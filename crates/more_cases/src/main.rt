@@ -57,7 +57,16 @@ fn expand_alone<'a>(registry: &'a [u8], condition: &'a [u8]) {
 fn expand<'a>(registry: &'a [u8], condition: &'a [u8], result: &mut [u8], behind: &[u8]) {
     let mut work = [0u8; 65536];
     let mut message = [0u8; 2048];
-    let answer = expansion::expand(registry, condition, 100, 0, result, &mut work, &mut message);
+    let answer = expansion::expand_lent(
+        registry,
+        condition,
+        100,
+        0,
+        result,
+        &mut work,
+        &mut message,
+        &mut [],
+    );
     print(answer.number, b" ");
     print(answer.span.start, b" ");
     print(answer.span.end, b" ");

@@ -1,10 +1,12 @@
 // The functions that C links. A slice is two parameters there, its pointer and its length; `answer` is a pointer to five words.
 use answer::Answer;
+use expansion::expand_lent;
 ghost use mathlib.Core.List.{[]};
 ghost use mathlib.Core.Path.{_≡_};
 ghost use lib.ListN.{length};
 ghost use Rattle.definition.specs.Answers.{checkAnswer, registryAnswer, substituteAnswer, expandAnswer};
 ghost use Rattle.definition.specs.Older.{olderAnswer};
+ghost use Rattle.definition.specs.Counts.{freshCounts, expandCounts};
 ghost use Rattle.answer.specs.Matches.{buffers};
 ghost use Rattle.neukolja.specs.Words.{wordsOf, wordsWith};
 
@@ -30,10 +32,19 @@ pub extern "C" fn neukolja_check(definition: &[u8], message: &mut [u8], answer: 
 }
 
 #[no_mangle]
-pub extern "C" fn neukolja_registry(registry: &[u8], message: &mut [u8], answer: &mut [u64; 5])
-    ensures { λ _. ⌜ wordsWith (now (answer .exit)) [] [] (now (message .exit)) ≡ registryAnswer (length (now (message .entry))) (now (registry .entry)) ⌝ }
+pub extern "C" fn neukolja_registry(
+    registry: &[u8],
+    message: &mut [u8],
+    counts: &mut [u32; 255],
+    answer: &mut [u64; 5],
+)
+    ensures { λ _. ⌜ (wordsWith (now (answer .exit)) [] [] (now (message .exit)) ≡ registryAnswer (length (now (message .entry))) (now (registry .entry))) × (now (counts .exit) ≡ freshCounts) ⌝ }
 {
-    write_words(registry::build(registry, message), answer);
+    let built = registry::build(registry, message);
+    let state = built.counts;
+    let fresh = state.of;
+    *counts = fresh;
+    write_words(built.answer, answer);
 }
 
 #[no_mangle]
@@ -58,20 +69,19 @@ pub extern "C" fn neukolja_substitute<'a>(
 #[no_mangle]
 pub extern "C" fn neukolja_expand<'a>(
     registry: &'a [u8],
-    condition: &'a [u8],
+    input: &'a [u8],
     limit: u32,
     file: u16,
     result: &mut [u8],
     work: &mut [u8],
     message: &mut [u8],
+    counts: &mut [u32; 255],
     answer: &mut [u64; 5],
 )
-    ensures { λ _. ⌜ wordsWith (now (answer .exit)) (now (result .exit)) (now (work .exit)) (now (message .exit)) ≡ expandAnswer (buffers (length (now (result .entry))) (length (now (work .entry))) (length (now (message .entry)))) limit file (now (registry .entry)) (now (condition .entry)) ⌝ }
+    ensures { λ _. ⌜ (wordsWith (now (answer .exit)) (now (result .exit)) (now (work .exit)) (now (message .exit)) ≡ expandAnswer (buffers (length (now (result .entry))) (length (now (work .entry))) (length (now (message .entry)))) limit file (now (registry .entry)) (now (input .entry))) × (now (counts .exit) ≡ expandCounts (buffers (length (now (result .entry))) (length (now (work .entry))) (length (now (message .entry)))) limit file (now (registry .entry)) (now (input .entry)) (now (counts .entry))) ⌝ }
 {
-    write_words(
-        expansion::expand(registry, condition, limit, file, result, work, message),
-        answer,
-    );
+    let r = expand_lent(registry, input, limit, file, result, work, message, counts);
+    write_words(r, answer);
 }
 
 #[no_mangle]

@@ -1,5 +1,5 @@
 -- The laws that the functions' proofs cite, and those that the crates above cite.
 mod Items
-mod Rows
+pub mod Rows
 pub mod Entries
 pub mod Placed

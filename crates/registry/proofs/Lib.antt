@@ -1,6 +1,6 @@
 -- The laws that several proofs of the crate cite.
 mod Codes
-mod Tables
+pub mod Tables
 mod Steps
 pub mod Standing
 pub mod Verdicts

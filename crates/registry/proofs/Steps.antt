@@ -9,7 +9,7 @@ use mathlib.Core.List.{List, [], _∷_, _++_, append-nil}
 use mathlib.Core.Bool.{Bool, true, false, _||_}
 use lib.Dec.{leb, eqb}
 use lib.ListN.{length, take, drop, getD, length-drop, take-append-drop, drop-of-length-le}
-use lib.Seq.{sets, take-all, take-nil, drop-drop, drop-cons, append-snoc}
+use lib.Seq.{sets, take-nil, drop-drop, drop-cons, append-snoc}
 use borrow.Author.Tests.{lt-leb, le-leb, eq-eqb, ne-eqb}
 use Rattle.format.specs.Entry.{Text}
 use Rattle.format.specs.Tape.{isText, textWidth}
@@ -34,7 +34,7 @@ use Rattle.answer.specs.declared.Verdict.the-variants.{Passes, Refused}
 use Rattle.registry.specs.Places.{Row, origin, firstRow, rowsIn, keyFrom, keyOf, endOf, consIf, keyAt, rowsFrom, indexAt, getAt, andThenIn, checkAt, buildFromAt, buildAt}
 use Rattle.registry.specs.declared.Found.{Found}
 use Rattle.registry.specs.declared.Found.the-variants.{Definition, Nothing}
-use Rattle.registry.proofs.Tables.{table-ends, rows-left, no-rows, row-read, row-written}
+use Rattle.registry.proofs.Tables.{table-ends, rows-left, no-rows, row-read, row-written, rest-behind}
 
 -- ------------------------------------------------------------------ keys
 
@@ -154,9 +154,6 @@ module _ (s : List ℕ) (l : Layout) where
 -- ------------------------------------------------------------------ the definition of a name
 
 -- a table without its first row
-rest-behind : (rest : List ℕ) → take (length rest - 2) (drop 2 rest) ≡ drop 2 rest
-rest-behind rest = take-all (length rest - 2) (drop 2 rest) (omega (arith, length-drop 2 rest))
-
 module _ (l : Layout) (rest : List ℕ) (left : ℕ) where
   pub end-last : left ≡ 0 → l .entries ≡ endOf l (rowsIn rest left)
   unfolding endOf

@@ -4,8 +4,8 @@ use Prim.Native.Nat.{ℕ, zero, suc, _+_, _*_, _-_, _/_, _%_, _≤_, _<_}
 use native.Mathlib.Omega.{arith}
 use mathlib.Core.Path.{_≡_, refl, ap, _∙_}
 use mathlib.Core.List.{List, [], _∷_, _++_}
-use lib.ListN.{length, drop, length-drop}
-use lib.Seq.{sets, drop-drop}
+use lib.ListN.{length, take, drop, length-drop}
+use lib.Seq.{sets, take-all, drop-drop}
 use borrow.Author.Tests.{le-leb, lt-leb}
 use Rattle.registry.specs.Places.{Row, firstRow, rowsIn}
 
@@ -26,6 +26,10 @@ module _ (table : List ℕ) where
 pub no-rows : (table : List ℕ) {n : ℕ} → n ≤ 0 → rowsIn table n ≡ []
 unfolding rowsIn
 no-rows table {n} h = let e : n ≡ 0 = omega arith in rw e
+
+-- what stands behind the first row
+pub rest-behind : (rest : List ℕ) → take (length rest - 2) (drop 2 rest) ≡ drop 2 rest
+rest-behind rest = take-all (length rest - 2) (drop 2 rest) (omega (arith, length-drop 2 rest))
 
 -- one row more
 pub row-read : (n : ℕ) (table : List ℕ) → 2 * n + 2 ≤ length table → rowsIn table (suc n) ≡ rowsIn table n ++ firstRow (drop (2 * n) table) ∷ []

@@ -1,5 +1,7 @@
 // `Registry::build` of macros/mod.rs: a reserved name is 10, a name that was defined before is 11, definition by definition, 10 first.
 // The places of the definitions are found once, and a name is looked for among them: no body is scanned again.
+use crate::counts::Counts;
+use crate::counts::fresh;
 use answer::Answer;
 use answer::Verdict;
 use answer::answer_verdict;
@@ -32,7 +34,16 @@ ghost use Rattle.definition.specs.Check.{contains};
 ghost use Rattle.definition.specs.Registry.{reservedNames};
 ghost use Rattle.tape.specs.Layouts.{Held};
 ghost use Rattle.answer.specs.Matches.{answerWith};
+ghost use Rattle.definition.specs.Counts.{freshCounts};
 ghost use Rattle.registry.specs.Places.{origin, firstRow, rowsIn, keyOf, endOf, keyAt, rowsFrom, indexAt, getAt, checkAt, buildAt};
+
+pub mod counts;
+
+// What the operation returns: its answer, and the state of a registry just built.
+pub struct Registered {
+    pub answer: Answer,
+    pub counts: Counts,
+}
 
 // A definition that was found: its head, where its parameters stand, and the entry behind its body.
 pub enum Found {
@@ -41,7 +52,7 @@ pub enum Found {
 }
 
 // The key of a name. Equal names have equal keys, so that texts are compared only where keys are equal.
-fn key_of(name: &[u8]) -> usize
+pub fn key_of(name: &[u8]) -> usize
     ensures { λ r. ⌜ r ≡ keyOf (now (name .entry)) ⌝ }
 {
     let mut h: usize = 0;
@@ -215,8 +226,8 @@ fn check_registry(s: &[u8], l: Layout) -> Verdict
     check_with_table(s, l, &mut places)
 }
 
-// The operation: 1 for a message buffer below 2,048 bytes, then the tape, then the names.
-pub fn build(registry: &[u8], message: &mut [u8]) -> Answer
+// 1 for a message buffer below 2,048 bytes, then the tape, then the names.
+fn answer_names(registry: &[u8], message: &mut [u8]) -> Answer
     ensures { λ r. ⌜ answerWith r [] [] (now (message .exit)) ≡ registryAnswer (length (now (message .entry))) (now (registry .entry)) ⌝ }
 {
     if message.len() < 2048 {
@@ -226,6 +237,15 @@ pub fn build(registry: &[u8], message: &mut [u8]) -> Answer
         Opened::Refused(n) => refuse_number(n, message),
         Opened::Tape(l) => answer_verdict(registry, l, check_registry(registry, l), message),
     }
+}
+
+// The operation. Every count is 0, whatever the answer.
+pub fn build(registry: &[u8], message: &mut [u8]) -> Registered
+    ensures { λ r. ⌜ (answerWith (r .answer) [] [] (now (message .exit)) ≡ registryAnswer (length (now (message .entry))) (now (registry .entry))) × (r .counts .of ≡ freshCounts) ⌝ }
+{
+    let answer = answer_names(registry, message);
+    let counts = fresh();
+    Registered { answer, counts }
 }
 
 // A definition ends where the next row's begins, and the last one where the entries end.

@@ -1,8 +1,10 @@
 // The Rust's `Registry`: it keeps its definitions by a reference to the lent tape. The borrow checker covers no function over
 // such a struct, so each is proved by a walk of its MIR, and leaves the work to a covered function.
 use answer::Answer;
+use expansion::Expanded;
 use grammar::codes::DEFINITIONS;
 use registry::Found;
+use registry::counts::Counts;
 use registry::index;
 use tape::accept::accept;
 use tape::header::Opened;
@@ -12,13 +14,15 @@ ghost use mathlib.Core.Path.{_≡_};
 ghost use Prim.Native.Nat.{_/_};
 ghost use lib.ListN.{length};
 ghost use Rattle.definition.specs.Answers.{expandAnswer};
+ghost use Rattle.definition.specs.Counts.{expandCounts};
 ghost use Rattle.grammar.specs.Grammar.{definitions};
 ghost use Rattle.tape.specs.Accept.{acceptOf};
 ghost use Rattle.answer.specs.Matches.{answerWith, buffers};
 ghost use Rattle.registry.specs.Places.{indexAt, getAt};
 ghost use Rattle.registry_held.specs.Held.{layoutOf, Builds, GetMatches};
 
-// What building a registry came to: the operation's answer, and how an accepted tape is laid out.
+// What building a registry came to: the operation's answer, and how an accepted tape is laid out. The state is none of it: it is the
+// caller's, who has it first from `registry::counts::fresh`, and then from each expansion.
 pub struct Built {
     pub answer: Answer,
     pub layout: Layout,
@@ -42,7 +46,8 @@ fn layout_of(tape: &[u8]) -> Layout
 fn build(tape: &[u8], message: &mut [u8]) -> Built
     ensures { λ r. ⌜ Builds (now (tape .entry)) (length (now (message .entry))) (now (message .exit)) r ⌝ }
 {
-    let answer = registry::build(tape, message);
+    let registered = registry::build(tape, message);
+    let answer = registered.answer;
     let layout = layout_of(tape);
     Built { answer, layout }
 }
@@ -89,7 +94,7 @@ pub fn get<'a>(r: Registry<'a>, name: &[u8]) -> Found
     find(r.tape, r.built, name)
 }
 
-// The tape is handed to the operation.
+// The tape is handed to the operation, and so is the state, which it hands back.
 pub fn expand<'a>(
     r: Registry<'a>,
     condition: &'a [u8],
@@ -98,8 +103,18 @@ pub fn expand<'a>(
     result: &mut [u8],
     work: &mut [u8],
     message: &mut [u8],
-) -> Answer
-    ensures { λ a. ⌜ answerWith a (now (result .exit)) (now (work .exit)) (now (message .exit)) ≡ expandAnswer (buffers (length (now (result .entry))) (length (now (work .entry))) (length (now (message .entry)))) limit file (now (r .entry .tape)) (now (condition .entry)) ⌝ }
+    counts: Counts,
+) -> Expanded
+    ensures { λ e. ⌜ (answerWith (e .answer) (now (result .exit)) (now (work .exit)) (now (message .exit)) ≡ expandAnswer (buffers (length (now (result .entry))) (length (now (work .entry))) (length (now (message .entry)))) limit file (now (r .entry .tape)) (now (condition .entry))) × (e .counts .of ≡ expandCounts (buffers (length (now (result .entry))) (length (now (work .entry))) (length (now (message .entry)))) limit file (now (r .entry .tape)) (now (condition .entry)) (counts .of)) ⌝ }
 {
-    expansion::expand(r.tape, condition, limit, file, result, work, message)
+    expansion::expand(
+        r.tape,
+        condition,
+        limit,
+        file,
+        result,
+        work,
+        message,
+        counts,
+    )
 }

@@ -14,6 +14,8 @@ pub struct Vector {
     pub numbers: usize,
     pub result: usize,
     pub message: usize,
+    pub given: usize,
+    pub counted: usize,
     pub next: usize,
 }
 
@@ -71,7 +73,8 @@ pub fn read_vector(s: &[u8], at: usize) -> Vector {
     let numbers = past(s, sizes, 12);
     let result = past(s, numbers, 56);
     let message = past_bytes(s, result);
-    let counts = past_bytes(s, message);
+    let given = past_bytes(s, message);
+    let counted = past_bytes(s, given);
     Vector {
         kind: kind_of(read_size(s, at) % 256, read_value(s, numbers)),
         limit,
@@ -82,6 +85,8 @@ pub fn read_vector(s: &[u8], at: usize) -> Vector {
         numbers,
         result,
         message,
-        next: past_bytes(s, past_bytes(s, counts)),
+        given,
+        counted,
+        next: past_bytes(s, counted),
     }
 }

@@ -1,5 +1,5 @@
 // Replays the list of the Rust's answers that stands in `stdin`, and says for each operation and number how many of its vectors
-// came out, the five numbers and every byte of the buffers. README.md says how the list was made; differential/README.md has what its bytes are.
+// came out, the five numbers, the counts and every byte of the buffers. README.md says how the list was made; differential/README.md has what its bytes are.
 use crate::list::read_vector;
 use crate::list::start;
 use crate::run::comes_out;
@@ -13,8 +13,8 @@ mod run;
 mod tally;
 
 // Room for a list.
-fn room() -> [u8; 524288] {
-    [0; 524288]
+fn room() -> [u8; 1048576] {
+    [0; 1048576]
 }
 
 // A count for each kind.

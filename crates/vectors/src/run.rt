@@ -54,21 +54,74 @@ fn holds(buffer: &[u8], head: &[u8]) -> bool {
     true
 }
 
-fn run(s: &[u8], v: Vector, result: &mut [u8], work: &mut [u8], message: &mut [u8]) -> Answer {
+// Counts as a list has them, four bytes each, and zeros behind the last.
+fn counts_of(given: &[u8]) -> [u32; 255] {
+    let mut counts = [0u32; 255];
+    for i in 0..255usize {
+        counts[i] = read_size(given, 4 * i);
+    }
+    counts
+}
+
+// Whether the counts are those that a list has.
+fn same_counts(counts: &[u32; 255], expected: &[u8]) -> bool {
+    for i in 0..255usize {
+        if counts[i] != read_size(expected, 4 * i) {
+            return false;
+        }
+    }
+    true
+}
+
+// A registry's answer; the counts that it hands out are put in the place of those given.
+fn build(registry: &[u8], message: &mut [u8], counts: &mut [u32; 255]) -> Answer {
+    let built = registry::build(registry, message);
+    let state = built.counts;
+    let fresh = state.of;
+    *counts = fresh;
+    built.answer
+}
+
+fn run(
+    s: &[u8],
+    v: Vector,
+    result: &mut [u8],
+    work: &mut [u8],
+    message: &mut [u8],
+    counts: &mut [u32; 255],
+) -> Answer {
     let first = bytes(s, v.first);
     let second = bytes(s, v.second);
     match v.kind / 64 {
         1 => check_body::check(first, message),
-        2 => registry::build(first, message),
+        2 => build(first, message, counts),
         3 => substitution::substitute(first, second, v.limit, v.file, result, work, message),
         10 => older::older(first, result),
-        _ => expansion::expand(first, second, v.limit, v.file, result, work, message),
+        _ => expansion::expand_lent(
+            first,
+            second,
+            v.limit,
+            v.file,
+            result,
+            work,
+            message,
+            counts,
+        ),
     }
 }
 
-fn on_buffers(s: &[u8], v: Vector, result: &mut [u8], work: &mut [u8], message: &mut [u8]) -> bool {
-    let r = run(s, v, result, work, message);
+// The answer and the counts.
+fn answers(s: &[u8], v: Vector, result: &mut [u8], work: &mut [u8], message: &mut [u8]) -> bool {
+    let mut counts = counts_of(bytes(s, v.given));
+    let r = run(s, v, result, work, message, &mut counts);
     if !tells(r, part_of(s, v.numbers, 40)) {
+        return false;
+    }
+    same_counts(&counts, bytes(s, v.counted))
+}
+
+fn on_buffers(s: &[u8], v: Vector, result: &mut [u8], work: &mut [u8], message: &mut [u8]) -> bool {
+    if !answers(s, v, result, work, message) {
         return false;
     }
     if !holds(result, bytes(s, v.result)) {

@@ -3,6 +3,7 @@
 //! Nothing is decided here. Each function calls upstream's own functions in the order that document 01 names.
 
 use super::*;
+use dogwood_syntax::MARK;
 
 /// What a run of upstream came to.
 pub struct Ran<T> {
@@ -92,6 +93,15 @@ pub fn expand(defs: &[MacroDef], mut condition: Condition, reach: Reach) -> Ran<
             halted_at: None,
         },
     }
+}
+
+/// The definitions whose bodies an expansion that succeeds has charged, in that order: each body is charged with a number
+/// that says whose it is. `charge_body` takes the number from `body_nodes`.
+pub fn charged_bodies(defs: &[MacroDef], mut condition: Condition) -> Result<Vec<usize>, Ended> {
+    let mut registry = Registry::build(defs, &ParseOptions::default())?;
+    registry.body_nodes = defs.iter().enumerate().map(|(i, def)| (def.name.as_str(), (i + 1) * MARK)).collect();
+    expand_temporal_condition(&mut condition, &mut registry)?;
+    Ok(registry.budget.marks().iter().map(|mark| mark / MARK - 1).collect())
 }
 
 /// Substitution of one definition and one call, names not compared, arguments as given. The front is that of

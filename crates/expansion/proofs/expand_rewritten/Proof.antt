@@ -9,9 +9,9 @@ use Rattle.expansion.proofs.expand_rewritten.Tie as tie
 
 returns : tie.Need-returns
 returns c =
-    let a = c .before .before .before .before .before .before .before .before .before .before .before .before .before .before .before .before .before .before .before .before .before .before .before .args in
-    answered-rewritten _ _ (now (a .registry)) (now (a .condition)) (replicate 12296 0) (a .d) (a .c) _ _ _ (c .before .before .before .before .before .before .before .before .before .before .before .before .before .before .before .before .rewrite .ensures) (c .before .before .before .before .before .before .before .before .before .before .before .before .before .rewrite2 .ensures)
-    (c .before .before .before .before .before .before .expand-in .ensures)
+    let a = c .before .before .before .before .before .before .before .before .before .before .before .before .before .before .before .before .before .before .before .before .before .before .before .before .before .before .before .args in
+    answered-rewritten _ _ (now (a .registry)) (now (a .condition)) (replicate 12296 0) (a .d) (a .c) _ _ _ _ (c .before .before .before .before .before .before .before .before .before .before .before .before .before .before .before .before .before .before .before .rewrite .ensures) (c .before .before .before .before .before .before .before .before .before .before .before .before .before .before .before .before .rewrite2 .ensures)
+    (c .before .before .before .before .before .before .before .before .expand-in .ensures)
 
 pub expand-rewritten-spec : {M : Type 1} → statement M
 expand-rewritten-spec =
@@ -24,6 +24,7 @@ expand-rewritten-spec =
     (λ c. search needs)
     (λ c. search needs)
     (λ c κs. search needs)
+    (λ c. search needs)
     (λ c. search needs)
     (λ c. search needs)
     (λ c. search needs)

@@ -6,7 +6,9 @@ use Rattle.neukolja.proofs.neukolja_expand.Statement.{statement}
 use Rattle.neukolja.proofs.neukolja_expand.Tie as tie
 
 returns : tie.Need-returns
-returns c = words-with _ _ _ _ _ (c .write-words .ensures) (c .before .before .before .before .before .before .before .before .expand .ensures)
+returns c =
+    let e = c .before .before .before .before .before .before .before .before .expand-lent .ensures in
+    (words-with _ _ _ _ _ (c .write-words .ensures) (e .0), e .1)
 
 pub neukolja-expand-spec : {M : Type 1} → statement M
 neukolja-expand-spec =

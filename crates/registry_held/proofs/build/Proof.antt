@@ -9,8 +9,8 @@ use Rattle.registry_held.proofs.build.Tie as tie
 
 returns : tie.Need-returns
 returns c =
-    let at = c .before .before .before .before .before .before in
-    builds _ _ _ _ (bytes-all (now (at .before .args .tape)) (λ i. at .shared-slice-known .given i .fits)) (c .before .before .before .build .ensures)
+    let at = c .before .before .before .before .before .before .before in
+    builds _ _ _ _ (bytes-all (now (at .before .args .tape)) (λ i. at .shared-slice-known .given i .fits)) (c .before .before .before .before .build .ensures .0)
     (c .layout-of .ensures)
 
 pub build-spec : {M : Type 1} → statement M

@@ -27,11 +27,15 @@ pub struct NodeBudget {
     charges: usize,
     most_charges: usize,
     halted_at: Option<usize>,
+    marks: Vec<usize>,
 }
+
+/// A charge of this many nodes and more is kept: no tree is so large, so it marks what it was made for.
+pub const MARK: usize = 1 << 40;
 
 impl NodeBudget {
     pub fn new(limit: usize) -> Self {
-        NodeBudget { limit, charged: 0, charges: 0, most_charges: usize::MAX, halted_at: None }
+        NodeBudget { limit, charged: 0, charges: 0, most_charges: usize::MAX, halted_at: None, marks: Vec::new() }
     }
 
     pub fn charge(&mut self, n: usize) -> Result<(), Exceeded> {
@@ -41,6 +45,9 @@ impl NodeBudget {
         }
         match self.charged.checked_add(n) {
             Some(sum) if sum <= self.limit => {
+                if n >= MARK {
+                    self.marks.push(n);
+                }
                 self.charged = sum;
                 self.charges += 1;
                 Ok(())
@@ -61,6 +68,11 @@ impl NodeBudget {
     /// How many charges were made.
     pub fn charges(&self) -> usize {
         self.charges
+    }
+
+    /// The charges that were marks, in their order.
+    pub fn marks(&self) -> &[usize] {
+        &self.marks
     }
 
     /// Refuse every charge after the first `most`.

@@ -1,4 +1,4 @@
--- `registry::build` meets its contract.
+-- `registry::answer_names` meets its contract.
 -- Assumes nothing.
 use native.Mathlib.Omega.{arith}
 use mathlib.Core.Path.{sym, _∙_}
@@ -10,8 +10,8 @@ use Rattle.definition.proofs.Withdrawn.{registry-as-given}
 use Rattle.tape.proofs.Roots.{registry-root, bytes-all}
 use Rattle.answer.proofs.Operations.{message-short, message-refused}
 use Rattle.registry.proofs.Answers.{built}
-use Rattle.registry.proofs.build.Statement.{statement}
-use Rattle.registry.proofs.build.Tie as tie
+use Rattle.registry.proofs.answer_names.Statement.{statement}
+use Rattle.registry.proofs.answer_names.Tie as tie
 
 returns : tie.Need-returns
 unfolding registryAnswer
@@ -31,8 +31,8 @@ returns-3 c =
     (sym (c .before .before .before .before .before .before .before .before .accept .ensures) ∙ c .before .before .before .before .before .before .l .given .1) (c .before .before .before .before .check-registry .ensures)
     (c .before .before .answer-verdict .ensures)
 
-pub build-spec : {M : Type 1} → statement M
-build-spec =
+pub answer-names-spec : {M : Type 1} → statement M
+answer-names-spec =
     tie.close
     (tie.spec
     (λ c κs. search needs)

@@ -1,0 +1,24 @@
+-- `expand_counts::count_calls` meets its contract.
+-- Assumes nothing.
+use borrow.Author.Needs.{needs}
+use borrow.Author.Tests.{not-true, not-false}
+use mathlib.Core.Path.{sym, _∙_}
+use Rattle.format.proofs.Tests.{from-true}
+use Rattle.tape.proofs.Holding.{held}
+use Rattle.expand_counts.proofs.Steps.{counted-held, counted-not-held}
+use Rattle.expand_counts.proofs.count_calls.Statement.{statement}
+use Rattle.expand_counts.proofs.count_calls.Tie as tie
+
+returns : tie.Need-returns
+returns c = counted-not-held _ _ _ _ _ _ (c .before .holds .ensures) (not-true _ (c .if1 .taken))
+
+count-entries-requires : tie.Need-count-entries-requires
+count-entries-requires c κs = held _ _ (from-true (sym (c .before .before .holds .ensures) ∙ not-false _ (c .before .if1 .left)))
+
+returns-2 : tie.Need-returns-2
+returns-2 c =
+    counted-held _ _ _ _ _ _ (c .before .before .before .before .before .holds .ensures) (not-false _ (c .before .before .before .before .if1 .left))
+    (c .before .before .count-entries .ensures)
+
+pub count-calls-spec : {M : Type 1} → statement M
+count-calls-spec = tie.close (tie.spec (λ c κs. search needs) returns count-entries-requires (λ c. search needs) returns-2)
