@@ -3,7 +3,7 @@
 
 use std::path::Path;
 
-const OPERATIONS: [&str; 5] = ["check", "registry", "substitute", "expand", "older"];
+const OPERATIONS: [&str; 6] = ["check", "registry", "substitute", "expand", "preview", "older"];
 
 fn main() {
     println!("cargo::rerun-if-changed=build.rs");

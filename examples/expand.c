@@ -1,4 +1,4 @@
-/* Expands one rule and prints the answer, how often the macro was used, and the result.
+/* Sizes one rule, expands it, and prints the sizes, the answer, how often the macro was used, and the result.
  *
  * The registry has one macro, m(x) = P{f: ?x, g: $t}; the rule is the call m(5), which stands from byte 7 to byte 9 of its source.
  * What comes out is P{f: 5, g: t$7}, and 4 nodes are charged. */
@@ -118,12 +118,17 @@ int main(void)
     static uint8_t registry[NEUKOLJA_TAPE_SIZE], rule[NEUKOLJA_TAPE_SIZE];
     static uint8_t result[NEUKOLJA_RESULT_SIZE], work[NEUKOLJA_WORK_SIZE], message[NEUKOLJA_MESSAGE_SIZE];
     static uint32_t counts[NEUKOLJA_COUNTS_LENGTH];
-    uint64_t answer[NEUKOLJA_ANSWER_LENGTH];
-    size_t registry_length = make_registry(registry);
+    uint64_t answer[NEUKOLJA_ANSWER_LENGTH], preview[NEUKOLJA_PREVIEW_LENGTH];
+    size_t registry_length = make_registry(registry), rule_length = make_rule(rule);
+
+    neukolja_preview(registry, registry_length, rule, rule_length, 100, 0,
+                     work, sizeof work, message, sizeof message, preview);
+    printf("the result will have %" PRIu64 " entries and %" PRIu64 " bytes of text\n",
+           preview[NEUKOLJA_RESULT_ENTRIES], preview[NEUKOLJA_RESULT_TEXT]);
 
     neukolja_registry(registry, registry_length, message, sizeof message, counts, answer);
     if (answer[NEUKOLJA_NUMBER] == NEUKOLJA_OK)
-        neukolja_expand(registry, registry_length, rule, make_rule(rule), 100, 0,
+        neukolja_expand(registry, registry_length, rule, rule_length, 100, 0,
                         result, sizeof result, work, sizeof work, message, sizeof message, counts, answer);
 
     printf("number %" PRIu64 ", span %" PRIu64 "..%" PRIu64 ", charged %" PRIu64 "\n",

@@ -1,18 +1,19 @@
 /* Neukolja: the temporal macro expander that hubs and valve heads share.
  *
  * Every function ends, on every input, and writes nothing outside the buffers that it is lent. A tape is read where it lies and
- * is not changed. `answer` points to five numbers; NEUKOLJA_NUMBER and so on are their places. The number is 0 for success and
- * else one of the refusals below. The span is 0..0 where a refusal has none. Texts and messages are UTF-8, and a message has no
- * zero at its end. A text on a tape that is no well-formed UTF-8 (RFC 3629), or holds 00 to 1F or 7F, is refused with
- * NEUKOLJA_MALFORMED; lengths are bytes.
+ * is not changed. `answer` points to five numbers, for neukolja_preview to seven; NEUKOLJA_NUMBER and so on are their places. The
+ * number is 0 for success and else one of the refusals below. The span is 0..0 where a refusal has none. Texts and messages are
+ * UTF-8, and a message has no zero at its end. A text on a tape that is no well-formed UTF-8 (RFC 3629), or holds 00 to 1F or 7F,
+ * is refused with NEUKOLJA_MALFORMED; lengths are bytes.
  *
  * Code 2, a disjunction, is withdrawn: a tape may hold it, and `a or b` is taken as the negation of the conjunction of the two
  * negations. The largest figures hold of the tape so rewritten too, which has three entries more for each 2 and nests two levels
  * deeper at each, and so do sizes, charges and messages. No result holds a 2.
  *
- * Stack: the walks recurse as deep as tapes nest. Measured at the deepest inputs on x86-64 (`bench stack`): neukolja_check 70,879
- * bytes, neukolja_registry 14,271, neukolja_substitute 146,447, neukolja_expand 299,391, neukolja_older 22,479. A linker script or
- * a thread must provide it, with what the caller itself needs and some room on top: nothing checks it while a function runs.
+ * Stack: the walks recurse as deep as tapes nest. Measured at the deepest inputs on x86-64 (`bench stack`): neukolja_check 70,895
+ * bytes, neukolja_registry 14,287, neukolja_substitute 146,463, neukolja_expand 299,583, neukolja_preview 311,887, neukolja_older
+ * 22,495. A linker script or a thread must provide it, with what the caller itself needs and some room on top: nothing checks it
+ * while a function runs.
  *
  * A function keeps nothing between calls, so several threads may call it at once, each with buffers of its own. What a call
  * writes to must not overlap anything else that it is given. No pointer may be null, not even with the length 0.
@@ -46,7 +47,10 @@ enum {
     NEUKOLJA_SPAN_END = 2,
     NEUKOLJA_MESSAGE_LENGTH = 3,
     NEUKOLJA_CHARGED = 4,
-    NEUKOLJA_ANSWER_LENGTH = 5
+    NEUKOLJA_ANSWER_LENGTH = 5,
+    NEUKOLJA_RESULT_ENTRIES = 5,        /* of neukolja_preview alone: the result's N */
+    NEUKOLJA_RESULT_TEXT = 6,           /* .. and its T */
+    NEUKOLJA_PREVIEW_LENGTH = 7
 };
 
 /* the numbers */
@@ -125,6 +129,18 @@ void neukolja_expand(const uint8_t *registry, size_t registry_length,
                      uint8_t *work, size_t work_length,
                      uint8_t *message, size_t message_length,
                      uint32_t counts[255], uint64_t answer[5]);
+
+/* What neukolja_expand would answer for the same tapes, limit and file number with a result buffer that is long enough, and how
+ * large its result would be: 8 bytes, 9 for each of N entries, and T bytes of text. N and T are 0 on a refusal. There is no result
+ * buffer, and no counts are taken.
+ * work:    all zeros afterwards.
+ * message: the message of a refusal, then zeros to the end; all zeros on success. */
+void neukolja_preview(const uint8_t *registry, size_t registry_length,
+                      const uint8_t *condition, size_t condition_length,
+                      uint32_t limit, uint16_t file,
+                      uint8_t *work, size_t work_length,
+                      uint8_t *message, size_t message_length,
+                      uint64_t answer[7]);
 
 /* The older tape, for heads that know no weeks: a tape of a condition, a definition (60), a call (54), a list of 60 or a lone term
  * (20 to 33; the first code tells which), each interval in weeks (64) turned into days (51) at seven times the amount. A tape

@@ -73,7 +73,7 @@ pub fn once(case: &Case, side: Side, machine: Option<Box<dyn Machine>>) {
 /// `bench stack` measures.
 pub fn by_archive(case: &Case, machine: &mut dyn Machine) {
     let [mut result, mut work, mut message] = case.sizes.map(|size| vec![1; size]);
-    let (mut counts, mut answer) = (Box::new(case.counts), [0; 5]);
+    let (mut counts, mut answer) = (Box::new(case.counts), [0; 7]);
     machine.run(
         case,
         Lent { result: &mut result, work: &mut work, message: &mut message, counts: &mut counts, answer: &mut answer },

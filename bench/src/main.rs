@@ -173,7 +173,7 @@ fn on_tapes(case: &Case) -> Timed<'_> {
 /// The archive, from tapes to a tape, zeroing of all buffers included.
 fn on_archive<'a>(case: &'a Case, machine: &'a mut dyn Machine) -> Timed<'a> {
     let [mut result, mut work, mut message] = case.sizes.map(|size| vec![1; size]);
-    let (mut counts, mut answer) = (case.counts, [0; 5]);
+    let (mut counts, mut answer) = (case.counts, [0; 7]);
     Box::new(move |n| {
         let start = Instant::now();
         for _ in 0..n {

@@ -27,7 +27,9 @@ fn deepest() -> Vec<(&'static str, Case)> {
         all.push((body, Case::new(Operation::Substitute, u32::MAX, vec![one, called])));
         all.push((body, Case::new(Operation::Older, 0, vec![registry(left)])));
         let deep = encode(&deep_rule(left));
-        all.push((rule, Case::new(Operation::Expand, u32::MAX, vec![registry(left), deep])));
+        for operation in [Operation::Expand, Operation::Preview] {
+            all.push((rule, Case::new(operation, u32::MAX, vec![registry(left), deep.clone()])));
+        }
     }
     all.sort_by_key(|(_, case)| case.operation);
     all

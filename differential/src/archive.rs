@@ -41,6 +41,11 @@ mod functions {
             result: *mut u8, result_len: usize, work: *mut u8, work_len: usize, message: *mut u8, message_len: usize,
             counts: *mut Counts, answer: *mut [u64; 5],
         );
+        #[cfg(archive_has = "preview")]
+        fn neukolja_preview(
+            registry: *const u8, registry_len: usize, condition: *const u8, condition_len: usize, limit: u32, file: u16,
+            work: *mut u8, work_len: usize, message: *mut u8, message_len: usize, answer: *mut [u64; 7],
+        );
         #[cfg(archive_has = "older")]
         fn neukolja_older(
             tape: *const u8, tape_len: usize, result: *mut u8, result_len: usize, answer: *mut [u64; 5],
@@ -56,6 +61,7 @@ mod functions {
                 Operation::Registry => cfg!(archive_has = "registry"),
                 Operation::Substitute => cfg!(archive_has = "substitute"),
                 Operation::Expand => cfg!(archive_has = "expand"),
+                Operation::Preview => cfg!(archive_has = "preview"),
                 Operation::Older => cfg!(archive_has = "older"),
             }
         }
@@ -66,7 +72,9 @@ mod functions {
             #[allow(unused_variables)]
             let b = case.tapes.get(1).map_or(&[][..], Vec::as_slice);
             #[allow(unused_variables)]
-            let Lent { result: r, work: w, message: m, counts, answer } = lent;
+            let Lent { result: r, work: w, message: m, counts, answer: words } = lent;
+            #[allow(unused_variables)]
+            let answer = words.first_chunk_mut::<5>().expect("seven words");
             // SAFETY: every pointer comes with its length from a slice that outlives the call, and no two overlap.
             unsafe {
                 match case.operation {
@@ -85,6 +93,11 @@ mod functions {
                     Operation::Expand => neukolja_expand(
                         a.as_ptr(), a.len(), b.as_ptr(), b.len(), limit, case.file,
                         r.as_mut_ptr(), r.len(), w.as_mut_ptr(), w.len(), m.as_mut_ptr(), m.len(), counts, answer,
+                    ),
+                    #[cfg(archive_has = "preview")]
+                    Operation::Preview => neukolja_preview(
+                        a.as_ptr(), a.len(), b.as_ptr(), b.len(), limit, case.file,
+                        w.as_mut_ptr(), w.len(), m.as_mut_ptr(), m.len(), words,
                     ),
                     #[cfg(archive_has = "older")]
                     Operation::Older => neukolja_older(a.as_ptr(), a.len(), r.as_mut_ptr(), r.len(), answer),

@@ -8,11 +8,18 @@ pub enum Operation {
     Registry,
     Substitute,
     Expand,
+    Preview,
     Older,
 }
 
-pub const OPERATIONS: [Operation; 5] =
-    [Operation::Check, Operation::Registry, Operation::Substitute, Operation::Expand, Operation::Older];
+pub const OPERATIONS: [Operation; 6] = [
+    Operation::Check,
+    Operation::Registry,
+    Operation::Substitute,
+    Operation::Expand,
+    Operation::Preview,
+    Operation::Older,
+];
 
 impl Operation {
     pub fn name(self) -> &'static str {
@@ -21,6 +28,7 @@ impl Operation {
             Operation::Registry => "registry",
             Operation::Substitute => "substitute",
             Operation::Expand => "expand",
+            Operation::Preview => "preview",
             Operation::Older => "older",
         }
     }
@@ -32,6 +40,7 @@ impl Operation {
             Operation::Registry => 2,
             Operation::Substitute => 3,
             Operation::Expand => 4,
+            Operation::Preview => 5,
             Operation::Older => 10,
         }
     }
@@ -42,7 +51,7 @@ impl Operation {
             Operation::Check => &[Sort::Definition],
             Operation::Registry => &[Sort::Definitions],
             Operation::Substitute => &[Sort::Definition, Sort::Call],
-            Operation::Expand => &[Sort::Definitions, Sort::Condition],
+            Operation::Expand | Operation::Preview => &[Sort::Definitions, Sort::Condition],
             Operation::Older => &[Sort::Any],
         }
     }
@@ -52,6 +61,7 @@ impl Operation {
         match self {
             Operation::Check | Operation::Registry => [0, 0, LEAST_MESSAGE],
             Operation::Substitute | Operation::Expand => [LEAST_RESULT, LEAST_WORK, LEAST_MESSAGE],
+            Operation::Preview => [0, LEAST_WORK, LEAST_MESSAGE],
             Operation::Older => [LEAST_RESULT, 0, 0],
         }
     }
@@ -63,7 +73,7 @@ impl Operation {
 
     /// Whether the operation walks a body, with a limit for what is charged.
     pub fn charges(self) -> bool {
-        matches!(self, Operation::Substitute | Operation::Expand)
+        matches!(self, Operation::Substitute | Operation::Expand | Operation::Preview)
     }
 }
 
@@ -101,6 +111,9 @@ impl Case {
     }
 }
 
+/// What preview returns. The other operations return the first five.
+pub type Words = [u64; 7];
+
 /// What an operation returns, and what its buffers hold before the zeros. The work buffer is always zero.
 #[derive(Clone, Debug, PartialEq, Eq)]
 pub struct Answer {
@@ -108,6 +121,8 @@ pub struct Answer {
     pub start: u64,
     pub end: u64,
     pub charged: u64,
+    /// Of a preview: the N and T that expansion's result has. Otherwise 0.
+    pub size: [u64; 2],
     pub result: Vec<u8>,
     pub message: Vec<u8>,
     /// The registry state that is handed back.
@@ -117,11 +132,17 @@ pub struct Answer {
 impl Answer {
     /// Success, with nothing charged, nothing written and these counts.
     pub fn success(counts: Counts) -> Answer {
-        Answer { number: 0, start: 0, end: 0, charged: 0, result: vec![], message: vec![], counts }
+        Answer { number: 0, start: 0, end: 0, charged: 0, size: [0; 2], result: vec![], message: vec![], counts }
     }
 
     /// The five numbers: number, start, end, message length, charged.
     pub fn numbers(&self) -> [u64; 5] {
         [self.number, self.start, self.end, self.message.len() as u64, self.charged]
+    }
+
+    /// The five numbers, and behind them N and T.
+    pub fn words(&self) -> Words {
+        let [number, start, end, length, charged] = self.numbers();
+        [number, start, end, length, charged, self.size[0], self.size[1]]
     }
 }

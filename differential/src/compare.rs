@@ -1,6 +1,6 @@
 //! The three that are compared: the model, upstream, and a machine (the archive, or the model behind the same calls).
 
-use crate::case::{Answer, COUNTS, Case, Counts, Operation};
+use crate::case::{Answer, COUNTS, Case, Counts, Operation, Words};
 use crate::model::{self, Notes, TooLarge};
 use crate::tape::{self, LARGEST, Node, Sort};
 use crate::upstream::{self, End, Reach, Run};
@@ -49,6 +49,9 @@ fn hear_upstream(case: &Case, answer: &Answer, notes: &Notes) -> Result<Witness,
     if let Some(result) = &notes.result {
         same("a result without Or", &tape::withdrawn(result), result)?;
     }
+    if case.operation == Operation::Preview {
+        same("what expansion returns", &model::words_of_expansion(case), &answer.words())?;
+    }
     if case.operation == Operation::Older {
         return older_is_read(&notes.trees[0], notes.result.as_ref()).map(|()| Witness::ModelAlone);
     }
@@ -95,7 +98,9 @@ fn run(case: &Case, trees: &[Node], reach: Reach) -> Run {
         (Operation::Check, [definition]) => upstream::check(definition),
         (Operation::Registry, [definitions]) => upstream::registry(definitions),
         (Operation::Substitute, [definition, call]) => upstream::substitute(definition, call, reach),
-        (Operation::Expand, [definitions, condition]) => upstream::expand(definitions, condition, reach),
+        (Operation::Expand | Operation::Preview, [definitions, condition]) => {
+            upstream::expand(definitions, condition, reach)
+        }
         _ => unreachable!("all tapes were read"),
     }
 }
@@ -167,7 +172,7 @@ pub struct Lent<'a> {
     pub work: &'a mut [u8],
     pub message: &'a mut [u8],
     pub counts: &'a mut Counts,
-    pub answer: &'a mut [u64; 5],
+    pub answer: &'a mut Words,
 }
 
 pub trait Machine {
@@ -219,17 +224,18 @@ impl Framed {
     }
 }
 
-/// Runs a machine on a case and compares the five numbers, every byte of the three buffers and the counts.
+/// Runs a machine on a case and compares the five numbers (of preview seven), every byte of the three buffers and the counts.
 pub fn judge(machine: &mut dyn Machine, case: &Case, answer: &Answer) -> Result<(), String> {
     let [mut result, mut work, mut message] = case.sizes.map(Framed::new);
-    let (mut numbers, mut counts) = ([u64::MAX; 5], case.counts);
+    let (mut words, mut counts) = ([u64::MAX; 7], case.counts);
     let [r, w, m] = [&mut result, &mut work, &mut message].map(Framed::inner);
-    machine.run(case, Lent { result: r, work: w, message: m, counts: &mut counts, answer: &mut numbers });
-    if numbers != answer.numbers() {
-        return Err(format!(
-            "number, start, end, message length, charged are {numbers:?}, expected {:?}",
-            answer.numbers()
-        ));
+    machine.run(case, Lent { result: r, work: w, message: m, counts: &mut counts, answer: &mut words });
+    let mut expected = answer.words();
+    if case.operation != Operation::Preview {
+        expected[5..].fill(u64::MAX);
+    }
+    if words != expected {
+        return Err(format!("number, start, end, message length, charged, N, T are {words:?}, expected {expected:?}"));
     }
     result.holds("result", &answer.result)?;
     work.holds("work", &[])?;

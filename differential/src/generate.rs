@@ -11,7 +11,7 @@ use crate::trees::{DEPTH, Ground, MOST_DEFINITIONS, Macro, Style, Trees};
 
 /// The operation of a case is drawn first.
 fn draw(random: &mut Random) -> Operation {
-    OPERATIONS[random.weighted(&[15, 8, 32, 38, 7])]
+    OPERATIONS[random.weighted(&[15, 8, 30, 34, 6, 7])]
 }
 
 pub fn operation(seed: u64, index: u64) -> Operation {
@@ -90,7 +90,7 @@ fn input(random: &mut Random, operation: Operation) -> Input {
             let second = Some(g.call_of(&called, ground, DEPTH));
             Input { first, second }
         }
-        Operation::Expand => {
+        Operation::Expand | Operation::Preview => {
             let first = a_registry(g);
             g.fuel = fuel(g.random);
             Input { first, second: Some(g.condition(Ground::Entered, DEPTH)) }
@@ -257,7 +257,7 @@ fn many_calls(random: &mut Random, input: &mut Input, operation: Operation) {
     let condition = Node::new(11, tape::span(1, 2), vec![calls.clone()]);
     match operation {
         Operation::Substitute => input.second = Some(calls),
-        Operation::Expand => input.second = Some(condition),
+        Operation::Expand | Operation::Preview => input.second = Some(condition),
         Operation::Older => input.first = if random.chance(50) { calls } else { condition },
         // A body with calls is accepted, and refused by its check.
         Operation::Check => input.first.children[2] = Node::new(62, 0, vec![condition]),
@@ -290,7 +290,7 @@ fn result_at_a_limit(random: &mut Random, operation: Operation, file: u16) -> In
             }
             input
         }
-        Operation::Expand => expansion_at_a_limit(random, figure, file),
+        Operation::Expand | Operation::Preview => expansion_at_a_limit(random, figure, file),
     }
 }
 

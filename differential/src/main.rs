@@ -11,7 +11,7 @@ const USAGE: &str = "differential COMMAND
   run [--seed N] [--cases N] [--from N] [--only OPERATION,..]   compare on cases from a seed
   show [--seed N] [--from N]   print one of them, with its answer
   replay FILE                  compare on a list of vectors, and with what it expects
-  record FILE [--seed N]       write the fixed list";
+  record FILE [--seed N] [--cases N]   write the fixed list, from 400,000 cases";
 
 /// After so many differences a campaign ends.
 const ENOUGH: u64 = 20;
@@ -25,7 +25,9 @@ fn main() -> ExitCode {
         }),
         Some("show") => option(&args, "--seed", 1).and_then(|seed| Ok(show(seed, option(&args, "--from", 0)?))),
         Some("replay") if args.len() == 2 => replay(&args[1]),
-        Some("record") if args.len() >= 2 => option(&args, "--seed", 1).and_then(|seed| record(&args[1], seed)),
+        Some("record") if args.len() >= 2 => {
+            option(&args, "--seed", 1).and_then(|seed| record(&args[1], seed, option(&args, "--cases", 400_000)?))
+        }
         _ => Err(USAGE.to_string()),
     };
     match done {
@@ -112,11 +114,11 @@ fn replay(path: &str) -> Result<bool, String> {
     let mut differences = 0;
     for (i, expected) in list.iter().enumerate() {
         let outcome = compare_all(&expected.case, &mut machine, &mut tally).and_then(|answer| {
-            let as_listed = answer.numbers() == expected.numbers
+            let as_listed = answer.words() == expected.words
                 && vectors::without_zeros(&answer.result) == expected.result
                 && vectors::without_zeros(&answer.message) == expected.message
                 && (answer.counts == expected.counts || !expected.case.operation.has_counts());
-            if as_listed { Ok(()) } else { Err(format!("{:?}, the list has {:?}", answer.numbers(), expected.numbers)) }
+            if as_listed { Ok(()) } else { Err(format!("{:?}, the list has {:?}", answer.words(), expected.words)) }
         });
         if let Err(difference) = outcome {
             println!("vector {i}, {}: {difference}", expected.case.operation.name());
@@ -128,8 +130,8 @@ fn replay(path: &str) -> Result<bool, String> {
     Ok(differences == 0)
 }
 
-fn record(path: &str, seed: u64) -> Result<bool, String> {
-    let list = record::record(seed)?;
+fn record(path: &str, seed: u64, cases: u64) -> Result<bool, String> {
+    let list = record::record(seed, cases)?;
     let bytes = vectors::write(&list);
     std::fs::write(path, &bytes).map_err(|e| format!("{path}: {e}"))?;
     println!("{} vectors, {} bytes", list.len(), bytes.len());
@@ -147,7 +149,7 @@ fn show(seed: u64, index: u64) -> bool {
         }
     }
     let (answer, notes) = model::answer(&case);
-    println!("number, start, end, message length, charged: {:?}", answer.numbers());
+    println!("number, start, end, message length, charged, N, T: {:?}", answer.words());
     if case.operation.has_counts() {
         println!("counts {:?}\nbecome {:?}", case.counts, answer.counts);
     }

@@ -3,7 +3,7 @@
 //! It is there for what upstream does not have: acceptance, the limits, and the order among the refusals. Since a
 //! limit can end a walk anywhere, the walks are here too; wherever no limit comes, upstream has to agree with them.
 
-use crate::case::{Answer, COUNTS, Case, Operation};
+use crate::case::{Answer, COUNTS, Case, Operation, Words};
 use crate::message;
 use crate::tape::{self, LARGEST, LARGEST_CALLS, Largest, Measure, Node, Over, Sort, UNBOUNDED, Unread};
 use std::collections::BTreeSet;
@@ -88,8 +88,16 @@ pub fn answer(case: &Case) -> (Answer, Notes) {
     match outcome {
         Ok(result) => {
             notes.calls = walk.calls;
-            notes.calls.iter().for_each(|i| answer.counts[*i] = answer.counts[*i].saturating_add(1));
-            answer.result = result.as_ref().map(tape::encode).unwrap_or_default();
+            if case.operation.has_counts() {
+                notes.calls.iter().for_each(|i| answer.counts[*i] = answer.counts[*i].saturating_add(1));
+            }
+            match &result {
+                Some(tree) if case.operation == Operation::Preview => {
+                    let measure = tape::measure(tree);
+                    answer.size = [measure.entries as u64, measure.text as u64];
+                }
+                _ => answer.result = result.as_ref().map(tape::encode).unwrap_or_default(),
+            }
             notes.result = result;
         }
         Err(refusal) => {
@@ -101,6 +109,15 @@ pub fn answer(case: &Case) -> (Answer, Notes) {
         }
     }
     (answer, notes)
+}
+
+/// What a preview has to return, by the answer of expansion with buffers that are long enough.
+pub fn words_of_expansion(case: &Case) -> Words {
+    let Case { limit, file, tapes, .. } = case.clone();
+    let (answer, _) = answer(&Case { file, ..Case::new(Operation::Expand, limit, tapes) });
+    let size =
+        |at: usize| answer.result.get(at..at + 4).map_or(0, |n| u32::from_le_bytes(n.try_into().expect("4 bytes")));
+    Answer { size: [size(0), size(4)].map(u64::from), ..answer.clone() }.words()
 }
 
 /// The number that would be answered if nothing that is made could be too large.
@@ -126,7 +143,7 @@ fn operate(case: &Case, walk: &mut Walk, notes: &mut Notes) -> Result<Option<Nod
         (Operation::Check, [definition]) => check(definition).map(|()| None),
         (Operation::Registry, [definitions]) => registry(definitions).map(|()| None),
         (Operation::Substitute, [definition, call]) => walk.substitute_whole(definition, call).map(Some),
-        (Operation::Expand, [definitions, condition]) => {
+        (Operation::Expand | Operation::Preview, [definitions, condition]) => {
             registry(definitions)?;
             walk.expand_whole(definitions, condition).map(Some)
         }

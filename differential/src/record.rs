@@ -70,8 +70,8 @@ enum Shows {
     Declared(usize, usize),
     /// A character of so many bytes on an accepted tape, in a result or in a message.
     Character(&'static str, usize),
-    /// A root of the older tape, of a success or of a refusal.
-    Root(u8, bool),
+    /// A root of the older tape, of a success.
+    Root(u8),
     /// An interval in weeks, behind a 57 or in a within, by what its days are.
     Weeks(bool, &'static str),
     /// Something about the counts.
@@ -83,6 +83,16 @@ enum Shows {
 }
 
 impl Shows {
+    /// What of it a preview is to show for itself: the walk is expansion's, and shown there.
+    fn of_preview(self) -> Option<Shows> {
+        match self {
+            Shows::Number(number, ..) => Some(Shows::Number(number, 0, 0)),
+            Shows::Reason(1, _) | Shows::AtALimit("whole", "entries" | "text") | Shows::LongBuffers(_) => Some(self),
+            Shows::Tapes { .. } | Shows::Names { .. } | Shows::WholeBudget => Some(self),
+            _ => None,
+        }
+    }
+
     /// Whether it is about the acceptance of a tape, whichever operation the tape is for.
     fn is_acceptance(&self) -> bool {
         match self {
@@ -96,8 +106,6 @@ impl Shows {
     }
 }
 
-/// The cases that are looked through. More of them give a smaller list, slowly.
-const POOL: u64 = 400_000;
 /// So many of the smallest cases are kept for each thing that can be shown.
 const KEPT: usize = 4;
 
@@ -116,7 +124,11 @@ impl Candidate {
             _ if case.operation.number() > 4 && s.is_acceptance() => 0,
             _ => case.operation.number(),
         };
-        let shows = shows(&case, &answer, &notes).into_iter().map(|s| (operation(&s), s)).collect();
+        let mut shows = shows(&case, &answer, &notes);
+        if case.operation == Operation::Preview {
+            shows = shows.into_iter().filter_map(Shows::of_preview).collect();
+        }
+        let shows = shows.into_iter().map(|s| (operation(&s), s)).collect();
         Ok(Candidate { case, answer, shows })
     }
 
@@ -130,10 +142,11 @@ impl Candidate {
 }
 
 /// The bench cases and the order in a Since, and behind them cases from the seed until everything that any of them shows is shown.
-pub fn record(seed: u64) -> Result<Vec<(Case, Answer)>, String> {
+/// So many cases are looked through; more of them give a smaller list that shows more, slowly.
+pub fn record(seed: u64, cases: u64) -> Result<Vec<(Case, Answer)>, String> {
     let first = bench_cases::cases().into_iter().chain(bench_cases::orders());
     let mut chosen = first.map(Candidate::new).collect::<Result<Vec<_>, _>>()?;
-    let mut left = smallest(seed)?;
+    let mut left = smallest(seed, cases)?;
     loop {
         let shown: BTreeSet<_> = chosen.iter().flat_map(|c| c.shows.iter().cloned()).collect();
         left.iter_mut().for_each(|c| c.shows.retain(|s| !shown.contains(s)));
@@ -147,9 +160,9 @@ pub fn record(seed: u64) -> Result<Vec<(Case, Answer)>, String> {
 }
 
 /// For each thing that can be shown the smallest cases that show it.
-fn smallest(seed: u64) -> Result<Vec<Candidate>, String> {
+fn smallest(seed: u64, cases: u64) -> Result<Vec<Candidate>, String> {
     let mut least: BTreeMap<(u8, Shows), Vec<(usize, u64)>> = BTreeMap::new();
-    for index in 0..POOL {
+    for index in 0..cases {
         let candidate = Candidate::new(generate::case(seed, index))?;
         for shows in &candidate.shows {
             let of = least.entry(shows.clone()).or_default();
@@ -210,7 +223,9 @@ fn shows(case: &Case, answer: &Answer, notes: &Notes) -> Vec<Shows> {
     if case.operation == Operation::Older
         && let [tree] = &notes.given[..]
     {
-        all.push(Shows::Root(tree.code, success));
+        if success {
+            all.push(Shows::Root(tree.code));
+        }
         tree.visit(&mut |node| all.extend(weeks_below(node)));
     }
     if case.operation.has_counts() {
@@ -243,7 +258,7 @@ fn of_refusals(case: &Case, answer: &Answer, notes: &Notes) -> Vec<Shows> {
     }
     let read = |(bytes, root): (&Vec<u8>, &Sort)| model::read(bytes, *root).map_or_else(number_of, |_| 0);
     let tapes: Vec<u64> = case.tapes.iter().zip(case.operation.roots()).map(read).collect();
-    if case.operation == Operation::Expand
+    if matches!(case.operation, Operation::Expand | Operation::Preview)
         && let Ok(definitions) = tape::accept(&case.tapes[0], Sort::Definitions)
     {
         let names = model::registry(&definitions).map_or_else(|refusal| refusal.number, |()| 0);

@@ -13,7 +13,7 @@ pub fn possible(operation: Operation) -> Vec<u64> {
         Operation::Check => vec![0, 1, 2, 3, 20, 21, 22],
         Operation::Registry => vec![0, 1, 2, 3, 10, 11],
         Operation::Substitute => [vec![0, 1, 2, 3, 31, 34, 35], (41..=48).collect()].concat(),
-        Operation::Expand => [vec![0, 1, 2, 3, 10, 11], (30..=48).collect()].concat(),
+        Operation::Expand | Operation::Preview => [vec![0, 1, 2, 3, 10, 11], (30..=48).collect()].concat(),
         Operation::Older => vec![0, 1, 2, 3, 52],
     }
 }

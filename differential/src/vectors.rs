@@ -1,6 +1,6 @@
 //! Lists of cases with their answers, in the format that README.md gives.
 
-use crate::case::{Answer, COUNTS, Case, Counts, OPERATIONS, Operation};
+use crate::case::{Answer, COUNTS, Case, Counts, OPERATIONS, Operation, Words};
 
 const MARK: &[u8; 8] = b"ORACLEV3";
 /// Lists from elsewhere, with another spelling of the counts; read and not written.
@@ -17,8 +17,7 @@ pub fn write(vectors: &[(Case, Answer)]) -> Vec<u8> {
         out.push(case.tapes.len() as u8);
         case.tapes.iter().for_each(|tape| put_bytes(&mut out, tape));
         case.sizes.iter().for_each(|n| put_u32(&mut out, *n));
-        answer.numbers().iter().for_each(|n| out.extend_from_slice(&n.to_le_bytes()));
-        out.extend([0; 16]);
+        answer.words().iter().for_each(|n| out.extend_from_slice(&n.to_le_bytes()));
         put_bytes(&mut out, without_zeros(&answer.result));
         put_bytes(&mut out, without_zeros(&answer.message));
         [&case.counts, &answer.counts].into_iter().for_each(|counts| put_counts(&mut out, counts));
@@ -47,10 +46,10 @@ pub fn without_zeros(bytes: &[u8]) -> &[u8] {
     &bytes[..end]
 }
 
-/// A case with what a list expects of it: the five numbers, the two buffers without the zeros at their ends, the counts.
+/// A case with what a list expects of it: the seven words, the two buffers without the zeros at their ends, the counts.
 pub struct Expected {
     pub case: Case,
-    pub numbers: [u64; 5],
+    pub words: Words,
     pub result: Vec<u8>,
     pub message: Vec<u8>,
     pub counts: Counts,
@@ -122,8 +121,10 @@ impl<'a> Reader<'a> {
         let sizes = [self.u32()? as usize, self.u32()? as usize, self.u32()? as usize];
         let given = !ours && self.take(1)?[0] == 1;
         let mut counts = if given { self.counts(4 * COUNTS)? } else { [0; COUNTS] };
-        let numbers = [self.u64()?, self.u64()?, self.u64()?, self.u64()?, self.u64()?];
-        self.zeros(16)?;
+        let mut words = [0; 7];
+        for word in &mut words {
+            *word = self.u64()?;
+        }
         let (result, message) = (self.bytes()?, self.bytes()?);
         if ours {
             let length = self.u32()? as usize;
@@ -131,6 +132,6 @@ impl<'a> Reader<'a> {
         }
         let length = if ours { self.u32()? as usize } else { 4 * COUNTS * usize::from(given) };
         let case = Case { operation, limit, file, counts, tapes, sizes };
-        Ok(Expected { case, numbers, result, message, counts: self.counts(length)? })
+        Ok(Expected { case, words, result, message, counts: self.counts(length)? })
     }
 }

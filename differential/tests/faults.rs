@@ -24,7 +24,8 @@ impl Machine for Faulty {
         fill(lent.message, &answer.message, self.rest);
         lent.work.fill(self.work);
         *lent.counts = answer.counts;
-        *lent.answer = answer.numbers();
+        let words = if case.operation == Operation::Preview { 7 } else { 5 };
+        lent.answer[..words].copy_from_slice(&answer.words()[..words]);
     }
 }
 
@@ -53,7 +54,7 @@ fn the_model_itself_passes() {
 
 #[test]
 fn wrong_answers_are_noticed() {
-    let changes: [(&str, Change); 12] = [
+    let changes: [(&str, Change); 14] = [
         ("refuses each call", |case, answer| {
             if case.operation.charges() && answer.charged > 0 {
                 *answer = Answer { number: 30, ..Answer::success(case.counts) };
@@ -88,6 +89,12 @@ fn wrong_answers_are_noticed() {
         ("says 2 for 3", |_, answer| {
             if answer.number == 3 {
                 answer.number = 2;
+            }
+        }),
+        ("swaps N and T", |_, answer| answer.size.reverse()),
+        ("keeps N on a refusal", |case, answer| {
+            if case.operation == Operation::Preview && answer.number == 35 {
+                answer.size[0] = 1;
             }
         }),
         ("counts on a refusal", |case, answer| {

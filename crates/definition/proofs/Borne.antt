@@ -2,15 +2,20 @@
 -- result, if it is closed. The walks of SaidSubstitute and SaidExpand, with no rule but that.
 -- Assumes nothing.
 use Prim.Native.Nat.{ℕ}
-use mathlib.Core.List.{List}
-use Rattle.format.specs.Entry.{Text}
-use Rattle.format.specs.Ast.{Condition, Call, MacroDef}
+use mathlib.Core.Path.{_≡_}
+use mathlib.Core.List.{List, [], _∷_}
+use mathlib.Core.Bool.{false}
+use Rattle.format.specs.Entry.{Text, Entry}
+use Rattle.format.specs.Ast.{Condition, Call, Tree, MacroDef}
 use Rattle.format.specs.Flat.{flatCondition, flatCall, flatTree, flatDef}
-use Rattle.format.proofs.All.{All, all-map}
+use Rattle.format.specs.Limits.{tooLargeTree}
+use Rattle.format.proofs.All.{All, all-nil, all-cons, all-map}
+use Rattle.definition.specs.Outcome.{Outcome}
 use Rattle.definition.specs.Substitute.{substitute}
 use Rattle.definition.specs.Expand.{expand}
-use Rattle.definition.proofs.Verdicts.{Any}
-use Rattle.definition.proofs.Rules.{Closed, Each, Bears, rules-of, known-each, bears, refuses-build}
+use Rattle.definition.proofs.Good.{Good, good-done, good-refused}
+use Rattle.definition.proofs.Verdicts.{Any, all-any}
+use Rattle.definition.proofs.Rules.{Closed, closed-texts, Rules, Any-number, Unasked, AnswersRefusal, Known, Fits, Each, Bears, rules-of, known-each, bears, refuses-build}
 use Rattle.definition.proofs.SaidSubstitute.{said-substitute}
 use Rattle.definition.proofs.SaidExpand.{said-expand}
 
@@ -23,3 +28,27 @@ module _ {M : ℕ → Text → Type 0} (limit file : ℕ) (closed : Closed Any M
       → Bears M flatTree (expand limit file defs c)
   expand-bears defs d c k =
       bears M (said-expand defs limit file (rules-of limit closed) (all-map (λ x h. known-each M h) d) (refuses-build defs) c (known-each M k))
+
+-- ------------------------------------------------------------------ a result is never too large
+
+-- no rule at all
+unasked : (limit file : ℕ) → Rules Any Unasked Any Any-number Any-number limit file
+unasked limit file = rules-of limit (closed-texts (λ t k start. tt))
+
+all-unasked : (es : List Entry) → All (Known Any Unasked Any-number) es
+all-unasked [] = all-nil
+all-unasked (e ∷ es) = all-cons (tt, tt, tt) (all-unasked es)
+
+abbrev pub Small : Outcome Tree → Type 0
+Small o = Good AnswersRefusal (λ t n. tooLargeTree t ≡ false) o
+
+small : {o : Outcome Tree} → Fits Any Unasked Any-number (λ t. t) o → Small o
+small (good-done h) = good-done (h .2)
+small (good-refused h) = good-refused (h .0 .1)
+
+pub substitute-small : (limit file : ℕ) (def : MacroDef) (call : Call) → Small (substitute limit file def call)
+substitute-small limit file def call = small (said-substitute (unasked limit file) def (all-unasked _) call (all-unasked _))
+
+pub expand-small : (limit file : ℕ) (defs : List MacroDef) (c : Condition) → Small (expand limit file defs c)
+expand-small limit file defs c =
+    small (said-expand defs limit file (unasked limit file) (all-map (λ d h. all-unasked (flatDef d)) (all-any defs)) (refuses-build defs) c (all-unasked _))

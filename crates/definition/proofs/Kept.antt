@@ -8,7 +8,7 @@ use mathlib.Core.List.{List, [], _∷_}
 use mathlib.Core.Bool.{Bool, true, false, not, _&&_, false≢true}
 use lib.Dec.{T, leb, leb→le, lit≤}
 use lib.ListN.{length, replicate, length-append, length-replicate}
-use Rattle.format.specs.Entry.{Text, Entry, encode, textOf}
+use Rattle.format.specs.Entry.{Entry, encode, textOf}
 use Rattle.format.specs.Ast.{Condition, Call, Tree, MacroParam, MacroDef}
 use Rattle.format.specs.Flat.{flatCondition, flatCall, flatTree, flatParams, flatDef, flatDefs, flatRegistry}
 use Rattle.format.specs.Limits.{nodeWeight, callWeight, deepTree, deepBody, fitsSizes, fitsDepths, fitsAll, tooLargeTree}
@@ -16,7 +16,7 @@ use Rattle.format.specs.Macro.{isCode}
 use Rattle.format.specs.Tape.{Reading, longestText, shortTexts, fewParams, small, conditionRoot, definitionRoot, callRoot, registryRoot, read}
 use Rattle.format.proofs.All.{All, all-nil, all-cons, all-head, all-tail, all-left, all-right, all-both, all-map}
 use Rattle.format.proofs.Accepted.{Values64, OnTape}
-use Rattle.format.proofs.Tests.{and-left, and-right}
+use Rattle.format.proofs.Tests.{and-left, and-right, not-refused}
 use Rattle.format.proofs.Encodes.{fitting, length-encode}
 use Rattle.format.proofs.Rewritten.{rewrites-condition, rewrites-definition, rewrites-call, rewrites-registry, read-on-tape}
 use Rattle.format.proofs.Exact.{lawful-condition, lawful-definition, lawful-call, lawful-registry}
@@ -27,16 +27,13 @@ use Rattle.definition.specs.Answers.{Buffers, padded, answer, numberAlon
 use Rattle.definition.specs.Kept.{Bounded, CheckBounded, RegistryBounded, SubstituteBounded, ExpandBounded}
 use Rattle.definition.proofs.Good.{good-done, good-refused}
 use Rattle.definition.proofs.Lengths.{Short, Name, Declared, Number, short-reserved, short-duplicate, short-undeclared, short-plain, short-macroInMacro, short-unknown, short-cedarInCondition, short-cedarInValue, short-valueAsCondition, short-conditionAsValue, short-count, short-budget, short-strayCondition, short-strayWithin, short-straySlot, short-strayField, short-strayOperand, short-unbound, short-notACondition, short-binderAsCondition, short-notAnInterval, short-notATerm, short-notAnIdentifier, short-notAPredicate}
+use Rattle.definition.proofs.Readings.{of-reading}
 use Rattle.definition.proofs.Verdicts.{Given, passes, refuses, given-body, given-build}
-use Rattle.definition.proofs.Rules.{closed-texts, Rules, Known, RefusalMatches, Fits}
+use Rattle.definition.proofs.Rules.{closed-texts, Rules, Unasked, Known, RefusalMatches, Fits}
 use Rattle.definition.proofs.SaidSubstitute.{def-name, def-body, said-substitute}
 use Rattle.definition.proofs.SaidExpand.{said-expand}
 
 -- ------------------------------------------------------------------ the rules: names of at most 255 bytes, values below 2^64
-
--- of a result's entries nothing is asked but their number
-abbrev Unasked : ℕ → Text → Type 0
-Unasked c t = Unit {0}
 
 abbrev Sized : Entry → Type 0
 Sized e = Known Name Unasked Number e
@@ -161,15 +158,12 @@ padded-length n bytes h =
     omega (arith, length-append bytes (replicate (n - length bytes) 0), length-replicate {A = ℕ} (n - length bytes) 0)
 
 -- a tree that is not too large has a tape of at most 12,296 bytes
-fits-of : (x y : Bool) → not (x && y) ≡ false → T x
-fits-of true y e = tt
-fits-of false y e = absurd (false≢true (sym e))
-
 tape-length : (t : Tree) → tooLargeTree t ≡ false → length (encode (flatTree t)) ≤ 12296
 unfolding tooLargeTree fitsAll
 tape-length t h =
     let es : List Entry = flatTree t in
-    let k = fits-of (fitsSizes (length es) (length (textOf es))) (fitsDepths (deepTree nodeWeight t) (deepTree callWeight t)) h in
+    let fits : Bool = fitsSizes (length es) (length (textOf es)) in
+    let k = and-left fits _ (not-refused (fits && fitsDepths (deepTree nodeWeight t) (deepTree callWeight t)) h) in
     let q = fitting (length es) (length (textOf es)) k in
     omega (arith, length-encode es)
 
@@ -205,10 +199,8 @@ bounded-number-alone tape b limit number = bounded-refused tape b limit _ 0 (ome
 -- a tape that is read: 2, 3, or what is accepted
 bounded-reading : {A B : Type 0} (tape : B → List ℕ) (b : Buffers) (limit : ℕ) (o : Reading A) (k : A → Outcome B)
     → ((a : A) → o ≡ Reading.accepted a → Bounded b limit (answer tape b (k a))) → Bounded b limit (answer tape b (reading o k))
-unfolding reading
-bounded-reading tape b limit Reading.malformed k f = bounded-number-alone tape b limit 2
-bounded-reading tape b limit Reading.tooLarge k f = bounded-number-alone tape b limit 3
-bounded-reading tape b limit (Reading.accepted a) k f = f a refl
+bounded-reading tape b limit o k f =
+    of-reading (λ x. Bounded b limit (answer tape b x)) o k (bounded-number-alone tape b limit 2) (bounded-number-alone tape b limit 3) f
 
 -- ------------------------------------------------------------------ check and registry
 

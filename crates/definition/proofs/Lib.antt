@@ -13,6 +13,7 @@ pub mod Lengthened
 pub mod Size
 pub mod Collected
 pub mod Counts
+pub mod Preview
 pub mod Decimal
 mod Good
 pub mod Values
@@ -26,3 +27,4 @@ mod Rules
 mod SaidSubstitute
 mod SaidExpand
 mod Borne
+mod Readings

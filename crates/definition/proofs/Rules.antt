@@ -60,6 +60,10 @@ pub record Rules (N : Text → Type 0) (M : ℕ → Text → Type 0) (S : Text �
 abbrev pub Any-number : ℕ → Type 0
 Any-number n = Unit {0}
 
+-- nor of an entry
+abbrev pub Unasked : ℕ → Text → Type 0
+Unasked c t = Unit {0}
+
 -- of a refusal that it is one
 abbrev pub AnswersRefusal : Refusal → ℕ → Type 0
 AnswersRefusal r n = T (not (eqb (r .number) 0))

@@ -23,6 +23,7 @@ use Rattle.definition.specs.Registry.{build}
 use Rattle.definition.specs.Answers.{Buffers, padded, answer, numberAlone, reading, longBuffers, treeAnswer, expandTapes, expandAnswer, substituteTapes, substituteAnswer, messageAlone, verdict, messageAnswer, checkAnswer, registryAnswer}
 use Rattle.definition.specs.Whole.{WholeOutcome, whole-tree, whole-message, WholeVerdict, whole-pass, whole-refusal, CheckDefWhole, BuildWhole, SubstituteWhole, ExpandWhole, WholeAnswer, WholeMessage, CheckWhole, RegistryWhole, SubstituteTapesWhole, ExpandTapesWhole}
 use Rattle.definition.proofs.Good.{good-done, good-refused}
+use Rattle.definition.proofs.Readings.{of-reading}
 use Rattle.definition.proofs.Verdicts.{Given, passes, refuses, given-body, given-build}
 use Rattle.definition.proofs.Rules.{closed-texts, Rules, Any-number, Known, RefusalMatches, Fits}
 use Rattle.definition.proofs.SaidSubstitute.{def-name, def-body, said-substitute}
@@ -173,19 +174,11 @@ says-message m o h = go (leb 2048 m)
     go true = h
     go false = says-bare nothing (messageAlone m) 1
 
--- a tape that is read: 2, 3, or what is accepted
-whole-reading : {A B : Type 0} (P : Outcome B → Type 0) (o : Reading A) (k : A → Outcome B) → P (numberAlone 2) → P (numberAlone 3)
-    → ((a : A) → o ≡ Reading.accepted a → P (k a)) → P (reading o k)
-unfolding reading
-whole-reading P Reading.malformed k p q f = p
-whole-reading P Reading.tooLarge k p q f = q
-whole-reading P (Reading.accepted a) k p q f = f a refl
-
 pub check-whole : CheckWhole
 unfolding checkAnswer definitionRoot
 check-whole m definition q =
     says-message m _
-    (whole-reading (SaysWhole nothing (messageAlone m)) (read definitionRoot definition) _ (says-bare nothing (messageAlone m) 2)
+    (of-reading (SaysWhole nothing (messageAlone m)) (read definitionRoot definition) _ (says-bare nothing (messageAlone m) 2)
     (says-bare nothing (messageAlone m) 3) λ def h.
     says-verdict m (whole-check def (known (flatDef def) (accepted-texts definitionRoot rewrites-definition lawful-definition definition q def h))))
 
@@ -193,7 +186,7 @@ pub registry-whole : RegistryWhole
 unfolding registryAnswer registryRoot
 registry-whole m registry q =
     says-message m _
-    (whole-reading (SaysWhole nothing (messageAlone m)) (read registryRoot registry) _ (says-bare nothing (messageAlone m) 2)
+    (of-reading (SaysWhole nothing (messageAlone m)) (read registryRoot registry) _ (says-bare nothing (messageAlone m) 2)
     (says-bare nothing (messageAlone m) 3) λ defs h.
     says-verdict m (whole-build defs (known-registry defs (accepted-texts registryRoot rewrites-registry lawful-registry registry q defs h))))
 
@@ -235,8 +228,8 @@ pub substitute-tapes-whole : SubstituteTapesWhole
 unfolding substituteAnswer substituteTapes definitionRoot callRoot
 substitute-tapes-whole b limit file definition input p q =
     tree-whole b _
-    (whole-reading (Answered b) (read definitionRoot definition) _ (bare-whole b 2 tt) (bare-whole b 3 tt) λ def h.
-    whole-reading (Answered b) (read callRoot input) _ (bare-whole b 2 tt) (bare-whole b 3 tt) λ call k.
+    (of-reading (Answered b) (read definitionRoot definition) _ (bare-whole b 2 tt) (bare-whole b 3 tt) λ def h.
+    of-reading (Answered b) (read callRoot input) _ (bare-whole b 2 tt) (bare-whole b 3 tt) λ call k.
     let d = known (flatDef def) (accepted-texts definitionRoot rewrites-definition lawful-definition definition p def h) in
     let c = known (flatCall call) (accepted-texts callRoot rewrites-call lawful-call input q call k) in
     answer-whole b (said-substitute (whole-rules limit file) def d call c))
@@ -245,8 +238,8 @@ pub expand-tapes-whole : ExpandTapesWhole
 unfolding expandAnswer expandTapes registryRoot conditionRoot
 expand-tapes-whole b limit file registry input p q =
     tree-whole b _
-    (whole-reading (Answered b) (read registryRoot registry) _ (bare-whole b 2 tt) (bare-whole b 3 tt) λ defs h.
-    whole-reading (Answered b) (read conditionRoot input) _ (bare-whole b 2 tt) (bare-whole b 3 tt) λ condition k.
+    (of-reading (Answered b) (read registryRoot registry) _ (bare-whole b 2 tt) (bare-whole b 3 tt) λ defs h.
+    of-reading (Answered b) (read conditionRoot input) _ (bare-whole b 2 tt) (bare-whole b 3 tt) λ condition k.
     let ds = known-registry defs (accepted-texts registryRoot rewrites-registry lawful-registry registry p defs h) in
     let c = known (flatCondition condition) (accepted-texts conditionRoot rewrites-condition lawful-condition input q condition k) in
     answer-whole b (said-expand defs limit file (whole-rules limit file) ds (whole-build defs ds) condition c))

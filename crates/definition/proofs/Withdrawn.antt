@@ -26,6 +26,7 @@ use Rattle.definition.specs.Size.{size}
 use Rattle.definition.specs.Answers.{Buffers, answer, numberAlone, reading, longBuffers, treeAnswer, expandTapes, expandAnswer, substituteTapes, substituteAnswer, verdict, messageAnswer, checkAnswer, registryAnswer}
 use Rattle.definition.specs.Withdrawn.{SizeOfRewritten, CheckAsGiven, RegistryAsGiven, NoOr, SubstituteNoOr, ExpandNoOr, NoOrResult, SubstituteResultNoOr, ExpandResultNoOr}
 use Rattle.definition.proofs.Size.{size-append}
+use Rattle.definition.proofs.Readings.{of-reading}
 use Rattle.definition.proofs.Good.{good-done, good-refused}
 use Rattle.definition.proofs.SameVerdicts.{same-check, same-build}
 use Rattle.definition.proofs.Verdicts.{Any}
@@ -124,13 +125,9 @@ tree-no-or b {o} g = go (longBuffers b)
 -- a tape that is read: 2, 3, or a tree without Or
 read-carries : {A : Type 0} (root : Root A) → Rewrites root → (bytes : List ℕ) (k : A → Outcome Tree)
     → ((a : A) → All NoOrEntry (root .flat a) → NoOrTree (k a)) → NoOrTree (reading (read root bytes) k)
-unfolding reading numberAlone
-read-carries {A} root r bytes k f = go (read root bytes) refl
-  where
-    go : (o : Reading A) → read root bytes ≡ o → NoOrTree (reading o k)
-    go Reading.malformed e = good-refused tt
-    go Reading.tooLarge e = good-refused tt
-    go (Reading.accepted a) e = f a (read-no-or root r bytes a e)
+unfolding numberAlone
+read-carries root r bytes k f =
+    of-reading (λ (o : Outcome Tree). NoOrTree o) (read root bytes) k (good-refused tt) (good-refused tt) λ a e. f a (read-no-or root r bytes a e)
 
 pub substitute-result-no-or : SubstituteResultNoOr
 unfolding substituteAnswer substituteTapes NotOr definitionRoot callRoot

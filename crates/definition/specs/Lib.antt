@@ -11,6 +11,7 @@ pub mod Calls
 pub mod Collect
 pub mod Answers
 pub mod Counts
+pub mod Preview
 pub mod Demand3
 pub mod Residue
 pub mod Names

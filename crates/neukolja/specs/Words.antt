@@ -1,10 +1,12 @@
--- An answer as the five words that C reads, and back.
+-- An answer as the five words that C reads, a preview as seven, and back.
 -- Assumes nothing.
 use Prim.Native.Nat.{ℕ}
 use mathlib.Core.List.{List, [], _∷_}
 use lib.ListN.{getD}
 use Rattle.definition.specs.Answers as definition
+use Rattle.definition.specs.Preview.{Preview}
 use Rattle.answer.specs.declared.Answer.{Answer}
+use Rattle.preview.specs.declared.Previewed.{Previewed}
 
 -- number, start, end, message length, charged
 abbrev pub wordsOf : Answer → List ℕ
@@ -23,3 +25,14 @@ wordsWith words result work message =
       work = work;
       message = message;
     }
+
+-- the five of its answer, then the result's N and T
+abbrev pub sevenOf : Previewed → List ℕ
+sevenOf r =
+    let a : Answer = r .answer in
+    a .number ∷ a .span .start ∷ a .span .end ∷ a .«message_length» ∷ a .charged ∷ r .entries ∷ r .text ∷ []
+
+-- what C reads from the seven words and the two buffers
+abbrev pub sevenWith : (words work message : List ℕ) → Preview
+sevenWith words work message =
+    record { answered = wordsWith words [] work message; entries = getD words 5 0; textBytes = getD words 6 0 }

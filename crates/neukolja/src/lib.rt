@@ -1,14 +1,17 @@
-// The functions that C links. A slice is two parameters there, its pointer and its length; `answer` is a pointer to five words.
+// The functions that C links. A slice is two parameters there, its pointer and its length; `answer` is a pointer to five words, or to
+// seven for a preview.
 use answer::Answer;
 use expansion::expand_lent;
+use preview::Previewed;
 ghost use mathlib.Core.List.{[]};
 ghost use mathlib.Core.Path.{_≡_};
 ghost use lib.ListN.{length};
 ghost use Rattle.definition.specs.Answers.{checkAnswer, registryAnswer, substituteAnswer, expandAnswer};
 ghost use Rattle.definition.specs.Older.{olderAnswer};
 ghost use Rattle.definition.specs.Counts.{freshCounts, expandCounts};
+ghost use Rattle.definition.specs.Preview.{previewAnswer};
 ghost use Rattle.answer.specs.Matches.{buffers};
-ghost use Rattle.neukolja.specs.Words.{wordsOf, wordsWith};
+ghost use Rattle.neukolja.specs.Words.{wordsOf, wordsWith, sevenOf, sevenWith};
 
 // The answer as five words: number, start, end, message length, charged.
 fn write_words(r: Answer, words: &mut [u64; 5])
@@ -21,6 +24,23 @@ fn write_words(r: Answer, words: &mut [u64; 5])
         span.end as u64,
         r.message_length as u64,
         r.charged as u64,
+    ];
+}
+
+// A preview as seven words: the five of its answer, then the result's N and T.
+fn write_seven(r: Previewed, words: &mut [u64; 7])
+    ensures { λ _. ⌜ now (words .exit) ≡ sevenOf r ⌝ }
+{
+    let told = r.answer;
+    let span = told.span;
+    *words = [
+        told.number as u64,
+        span.start as u64,
+        span.end as u64,
+        told.message_length as u64,
+        told.charged as u64,
+        r.entries as u64,
+        r.text as u64,
     ];
 }
 
@@ -82,6 +102,22 @@ pub extern "C" fn neukolja_expand<'a>(
 {
     let r = expand_lent(registry, input, limit, file, result, work, message, counts);
     write_words(r, answer);
+}
+
+#[no_mangle]
+pub extern "C" fn neukolja_preview<'a>(
+    registry: &'a [u8],
+    input: &'a [u8],
+    limit: u32,
+    file: u16,
+    work: &mut [u8],
+    message: &mut [u8],
+    answer: &mut [u64; 7],
+)
+    ensures { λ _. ⌜ sevenWith (now (answer .exit)) (now (work .exit)) (now (message .exit)) ≡ previewAnswer (length (now (work .entry))) (length (now (message .entry))) limit file (now (registry .entry)) (now (input .entry)) ⌝ }
+{
+    let r = preview::preview(registry, input, limit, file, work, message);
+    write_seven(r, answer);
 }
 
 #[no_mangle]

@@ -1,5 +1,5 @@
 // Replays the list of the Rust's answers that stands in `stdin`, and says for each operation and number how many of its vectors
-// came out, the five numbers, the counts and every byte of the buffers. README.md says how the list was made; differential/README.md has what its bytes are.
+// came out, the numbers, the counts and every byte of the buffers. README.md says how the list was made; differential/README.md has what its bytes are.
 use crate::list::read_vector;
 use crate::list::start;
 use crate::run::comes_out;

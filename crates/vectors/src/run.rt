@@ -4,6 +4,7 @@ use crate::list::bytes;
 use answer::Answer;
 use buffer::read_size;
 use buffer::read_value;
+use preview::Previewed;
 use tape::part::part_of;
 
 // Buffers, longer than any that a list asks for, full of bytes that are not zero.
@@ -19,8 +20,8 @@ fn message_room() -> [u8; 4096] {
     [0xA5; 4096]
 }
 
-// The five numbers.
-fn tells(r: Answer, numbers: &[u8]) -> bool {
+// The five numbers of an answer.
+fn tells_answer(r: Answer, numbers: &[u8]) -> bool {
     let span = r.span;
     if r.number as u64 != read_value(numbers, 0) {
         return false;
@@ -35,6 +36,17 @@ fn tells(r: Answer, numbers: &[u8]) -> bool {
         return false;
     }
     r.charged as u64 == read_value(numbers, 32)
+}
+
+// All seven.
+fn tells(r: Previewed, numbers: &[u8]) -> bool {
+    if !tells_answer(r.answer, numbers) {
+        return false;
+    }
+    if r.entries as u64 != read_value(numbers, 40) {
+        return false;
+    }
+    r.text as u64 == read_value(numbers, 48)
 }
 
 fn byte(s: &[u8], i: usize) -> u8 {
@@ -82,6 +94,15 @@ fn build(registry: &[u8], message: &mut [u8], counts: &mut [u32; 255]) -> Answer
     built.answer
 }
 
+// An answer that has no sizes of a result beside it.
+fn without_sizes(answer: Answer) -> Previewed {
+    Previewed {
+        answer,
+        entries: 0,
+        text: 0,
+    }
+}
+
 fn run(
     s: &[u8],
     v: Vector,
@@ -89,24 +110,35 @@ fn run(
     work: &mut [u8],
     message: &mut [u8],
     counts: &mut [u32; 255],
-) -> Answer {
+) -> Previewed {
     let first = bytes(s, v.first);
     let second = bytes(s, v.second);
+    let limit = v.limit;
+    let file = v.file;
     match v.kind / 64 {
-        1 => check_body::check(first, message),
-        2 => build(first, message, counts),
-        3 => substitution::substitute(first, second, v.limit, v.file, result, work, message),
-        10 => older::older(first, result),
-        _ => expansion::expand_lent(
+        1 => without_sizes(check_body::check(first, message)),
+        2 => without_sizes(build(first, message, counts)),
+        3 => without_sizes(substitution::substitute(
             first,
             second,
-            v.limit,
-            v.file,
+            limit,
+            file,
+            result,
+            work,
+            message,
+        )),
+        5 => preview::preview(first, second, limit, file, work, message),
+        10 => without_sizes(older::older(first, result)),
+        _ => without_sizes(expansion::expand_lent(
+            first,
+            second,
+            limit,
+            file,
             result,
             work,
             message,
             counts,
-        ),
+        )),
     }
 }
 
@@ -114,7 +146,7 @@ fn run(
 fn answers(s: &[u8], v: Vector, result: &mut [u8], work: &mut [u8], message: &mut [u8]) -> bool {
     let mut counts = counts_of(bytes(s, v.given));
     let r = run(s, v, result, work, message, &mut counts);
-    if !tells(r, part_of(s, v.numbers, 40)) {
+    if !tells(r, part_of(s, v.numbers, 56)) {
         return false;
     }
     same_counts(&counts, bytes(s, v.counted))

@@ -25,6 +25,7 @@ fn print_operation(operation: usize) -> bool {
         2 => io::write_all(STDOUT_FILENO, b"registry "),
         3 => io::write_all(STDOUT_FILENO, b"substitute "),
         4 => io::write_all(STDOUT_FILENO, b"expand "),
+        5 => io::write_all(STDOUT_FILENO, b"preview "),
         10 => io::write_all(STDOUT_FILENO, b"older "),
         _ => io::write_all(STDOUT_FILENO, b"unknown "),
     }
