@@ -3,7 +3,8 @@
 
 use std::path::Path;
 
-const OPERATIONS: [&str; 6] = ["check", "registry", "substitute", "expand", "preview", "older"];
+const OPERATIONS: [&str; 8] =
+    ["check", "registry", "substitute", "expand", "preview", "check_library", "check_at", "older"];
 
 fn main() {
     println!("cargo::rerun-if-changed=build.rs");

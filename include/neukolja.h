@@ -10,10 +10,10 @@
  * negations. The largest figures hold of the tape so rewritten too, which has three entries more for each 2 and nests two levels
  * deeper at each, and so do sizes, charges and messages. No result holds a 2.
  *
- * Stack: the walks recurse as deep as tapes nest. Measured at the deepest inputs on x86-64 (`bench stack`): neukolja_check 70,895
- * bytes, neukolja_registry 14,287, neukolja_substitute 146,463, neukolja_expand 299,583, neukolja_preview 311,887, neukolja_older
- * 22,495. A linker script or a thread must provide it, with what the caller itself needs and some room on top: nothing checks it
- * while a function runs.
+ * Stack: the walks recurse as deep as tapes nest. Measured at the deepest inputs on x86-64 (`bench stack`): neukolja_check 71,167
+ * bytes, neukolja_registry 14,287, neukolja_check_library 75,359, neukolja_check_at 75,279, neukolja_substitute 146,463,
+ * neukolja_expand 299,583, neukolja_preview 311,887, neukolja_older 22,495. A linker script or a thread must provide it, with what
+ * the caller itself needs and some room on top: nothing checks it while a function runs.
  *
  * A function keeps nothing between calls, so several threads may call it at once, each with buffers of its own. What a call
  * writes to must not overlap anything else that it is given. No pointer may be null, not even with the length 0.
@@ -99,6 +99,25 @@ void neukolja_check(const uint8_t *definition, size_t definition_length,
 void neukolja_registry(const uint8_t *registry, size_t registry_length,
                        uint8_t *message, size_t message_length,
                        uint32_t counts[255], uint64_t answer[5]);
+
+/* The body check of every definition of a registry, after the registry's own refusals. The number is 0 whatever the list holds.
+ * Nothing is charged.
+ * result:  16 bytes for each refused definition, in the registry's order: its index from 0, number, start and end, 4 bytes each,
+ *          the lowest byte first; then zeros to the end. A number listed is 20, 21 or 22, so the first number 0 ends the list.
+ *          All zeros on a refusal.
+ * message: the message of a refusal, then zeros to the end; all zeros on success. */
+void neukolja_check_library(const uint8_t *registry, size_t registry_length,
+                            uint8_t *result, size_t result_length,
+                            uint8_t *message, size_t message_length,
+                            uint64_t answer[5]);
+
+/* The body check of the definition of a registry that has an index from 0, after the same refusals: what neukolja_check answers
+ * for that definition alone, its message too, and 0 past the end. Nothing is charged.
+ * message: the message of a refusal, then zeros to the end; all zeros on success. */
+void neukolja_check_at(const uint8_t *registry, size_t registry_length,
+                       uint32_t index,
+                       uint8_t *message, size_t message_length,
+                       uint64_t answer[5]);
 
 /* One definition applied to one call, a tape whose root is 54; the names are not compared. At most `limit` nodes are charged.
  * `file` is the number of the call's file, which the names of `$` binders end in; with 0 they have none (see neukolja_expand).

@@ -24,6 +24,8 @@ fn deepest() -> Vec<(&'static str, Case)> {
         let (one, called) = (encode(&deep_definition(left)), encode(&call("deep", 7, vec![hours(1)])));
         all.push((body, Case::new(Operation::Check, 0, vec![one.clone()])));
         all.push((body, Case::new(Operation::Registry, 0, vec![registry(left)])));
+        all.push((body, Case::new(Operation::CheckLibrary, 0, vec![registry(left)])));
+        all.push((body, Case::new(Operation::CheckAt, 0, vec![registry(left)])));
         all.push((body, Case::new(Operation::Substitute, u32::MAX, vec![one, called])));
         all.push((body, Case::new(Operation::Older, 0, vec![registry(left)])));
         let deep = encode(&deep_rule(left));

@@ -46,6 +46,16 @@ mod functions {
             registry: *const u8, registry_len: usize, condition: *const u8, condition_len: usize, limit: u32, file: u16,
             work: *mut u8, work_len: usize, message: *mut u8, message_len: usize, answer: *mut [u64; 7],
         );
+        #[cfg(archive_has = "check_library")]
+        fn neukolja_check_library(
+            registry: *const u8, registry_len: usize, result: *mut u8, result_len: usize,
+            message: *mut u8, message_len: usize, answer: *mut [u64; 5],
+        );
+        #[cfg(archive_has = "check_at")]
+        fn neukolja_check_at(
+            registry: *const u8, registry_len: usize, index: u32, message: *mut u8, message_len: usize,
+            answer: *mut [u64; 5],
+        );
         #[cfg(archive_has = "older")]
         fn neukolja_older(
             tape: *const u8, tape_len: usize, result: *mut u8, result_len: usize, answer: *mut [u64; 5],
@@ -62,6 +72,8 @@ mod functions {
                 Operation::Substitute => cfg!(archive_has = "substitute"),
                 Operation::Expand => cfg!(archive_has = "expand"),
                 Operation::Preview => cfg!(archive_has = "preview"),
+                Operation::CheckLibrary => cfg!(archive_has = "check_library"),
+                Operation::CheckAt => cfg!(archive_has = "check_at"),
                 Operation::Older => cfg!(archive_has = "older"),
             }
         }
@@ -99,6 +111,14 @@ mod functions {
                         a.as_ptr(), a.len(), b.as_ptr(), b.len(), limit, case.file,
                         w.as_mut_ptr(), w.len(), m.as_mut_ptr(), m.len(), words,
                     ),
+                    #[cfg(archive_has = "check_library")]
+                    Operation::CheckLibrary => neukolja_check_library(
+                        a.as_ptr(), a.len(), r.as_mut_ptr(), r.len(), m.as_mut_ptr(), m.len(), answer,
+                    ),
+                    #[cfg(archive_has = "check_at")]
+                    Operation::CheckAt => {
+                        neukolja_check_at(a.as_ptr(), a.len(), case.index, m.as_mut_ptr(), m.len(), answer)
+                    }
                     #[cfg(archive_has = "older")]
                     Operation::Older => neukolja_older(a.as_ptr(), a.len(), r.as_mut_ptr(), r.len(), answer),
                     #[allow(unreachable_patterns)]

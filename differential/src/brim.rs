@@ -115,6 +115,28 @@ pub fn wrap_in_ors(random: &mut Random, tree: &mut Node) {
     }
 }
 
+/// As many definitions as a tape has room for if all are refused, each by a plain identifier or an undeclared `?`: five
+/// entries each. Now and then one of them passes.
+pub fn refused_library(random: &mut Random) -> Node {
+    let passing = random.below(2 * REFUSED);
+    let one = |i: usize| {
+        let term = match i {
+            _ if i == passing => Node::new(28, 0, vec![]),
+            _ => Node::with_text(*random.pick(&[27, 32]), b"y"),
+        };
+        let parts = vec![
+            Node::with_text(40, format!("d{i}").as_bytes()),
+            Node::counted(41, 2, vec![]),
+            Node::new(63, 0, vec![term]),
+        ];
+        Node::new(60, tape::span(i as u32, random.below(1000) as u32), parts)
+    };
+    Node::counted(41, 1, (0..REFUSED).map(one).collect())
+}
+
+/// The most definitions of five entries.
+const REFUSED: usize = (LARGEST.entries - 1) / 5;
+
 /// How much has to be added for a figure to come to rest at or around its limit.
 pub fn missing(random: &mut Random, figure: Figure, now: &Measure) -> Option<usize> {
     let target = figure.largest() + random.weighted(&[0, 40, 40, 10, 10]) - 1;

@@ -9,15 +9,19 @@ pub enum Operation {
     Substitute,
     Expand,
     Preview,
+    CheckLibrary,
+    CheckAt,
     Older,
 }
 
-pub const OPERATIONS: [Operation; 6] = [
+pub const OPERATIONS: [Operation; 8] = [
     Operation::Check,
     Operation::Registry,
     Operation::Substitute,
     Operation::Expand,
     Operation::Preview,
+    Operation::CheckLibrary,
+    Operation::CheckAt,
     Operation::Older,
 ];
 
@@ -29,6 +33,8 @@ impl Operation {
             Operation::Substitute => "substitute",
             Operation::Expand => "expand",
             Operation::Preview => "preview",
+            Operation::CheckLibrary => "check_library",
+            Operation::CheckAt => "check_at",
             Operation::Older => "older",
         }
     }
@@ -41,6 +47,8 @@ impl Operation {
             Operation::Substitute => 3,
             Operation::Expand => 4,
             Operation::Preview => 5,
+            Operation::CheckLibrary => 6,
+            Operation::CheckAt => 7,
             Operation::Older => 10,
         }
     }
@@ -49,7 +57,7 @@ impl Operation {
     pub fn roots(self) -> &'static [Sort] {
         match self {
             Operation::Check => &[Sort::Definition],
-            Operation::Registry => &[Sort::Definitions],
+            Operation::Registry | Operation::CheckLibrary | Operation::CheckAt => &[Sort::Definitions],
             Operation::Substitute => &[Sort::Definition, Sort::Call],
             Operation::Expand | Operation::Preview => &[Sort::Definitions, Sort::Condition],
             Operation::Older => &[Sort::Any],
@@ -59,7 +67,8 @@ impl Operation {
     /// The least sizes of its result, work and message buffers; 0 for one that it has not.
     pub fn buffers(self) -> [usize; 3] {
         match self {
-            Operation::Check | Operation::Registry => [0, 0, LEAST_MESSAGE],
+            Operation::Check | Operation::Registry | Operation::CheckAt => [0, 0, LEAST_MESSAGE],
+            Operation::CheckLibrary => [LEAST_RESULT, 0, LEAST_MESSAGE],
             Operation::Substitute | Operation::Expand => [LEAST_RESULT, LEAST_WORK, LEAST_MESSAGE],
             Operation::Preview => [0, LEAST_WORK, LEAST_MESSAGE],
             Operation::Older => [LEAST_RESULT, 0, 0],
@@ -92,6 +101,8 @@ pub struct Case {
     pub limit: u32,
     /// The number of the file that the call or the condition is from; 0 where no name is generated.
     pub file: u16,
+    /// The place of the definition that is asked for, from 0; otherwise 0.
+    pub index: u32,
     /// The registry state that is given; zeros where the operation has none.
     pub counts: Counts,
     pub tapes: Vec<Vec<u8>>,
@@ -102,7 +113,7 @@ pub struct Case {
 impl Case {
     /// From file 0, with a registry just built and buffers of the least sizes.
     pub fn new(operation: Operation, limit: u32, tapes: Vec<Vec<u8>>) -> Case {
-        Case { operation, limit, file: 0, counts: [0; COUNTS], tapes, sizes: operation.buffers() }
+        Case { operation, limit, file: 0, index: 0, counts: [0; COUNTS], tapes, sizes: operation.buffers() }
     }
 
     /// The bytes that this case takes in a list of vectors, its answer aside.

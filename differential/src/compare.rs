@@ -52,12 +52,18 @@ fn hear_upstream(case: &Case, answer: &Answer, notes: &Notes) -> Result<Witness,
     if case.operation == Operation::Preview {
         same("what expansion returns", &model::words_of_expansion(case), &answer.words())?;
     }
+    if let (Operation::CheckAt, 0 | 20.., Some(one)) =
+        (case.operation, answer.number, notes.given[0].children.get(case.index as usize))
+    {
+        let alone = Case::new(Operation::Check, 0, vec![tape::encode(one)]);
+        same("that definition's check alone", &model::answer(&alone).0.words(), &answer.words())?;
+    }
     if case.operation == Operation::Older {
         return older_is_read(&notes.trees[0], notes.result.as_ref()).map(|()| Witness::ModelAlone);
     }
     let [given, trees] =
         [&notes.given, &notes.trees].map(|trees| trees.iter().map(tape::weeks_as_days).collect::<Vec<_>>());
-    // Check and registry answer the same of the trees as they were given.
+    // Checks and registry answer the same of the trees as they were given.
     if !case.operation.charges() {
         same("the trees with Or", &run(case, &given, Reach::limit(0)), &run(case, &trees, Reach::limit(0)))?;
     }
@@ -97,6 +103,8 @@ fn run(case: &Case, trees: &[Node], reach: Reach) -> Run {
     match (case.operation, trees) {
         (Operation::Check, [definition]) => upstream::check(definition),
         (Operation::Registry, [definitions]) => upstream::registry(definitions),
+        (Operation::CheckLibrary, [definitions]) => upstream::check_library(definitions),
+        (Operation::CheckAt, [definitions]) => upstream::check_at(definitions, case.index),
         (Operation::Substitute, [definition, call]) => upstream::substitute(definition, call, reach),
         (Operation::Expand | Operation::Preview, [definitions, condition]) => {
             upstream::expand(definitions, condition, reach)
@@ -143,6 +151,10 @@ fn agrees(run: &Run, answer: &Answer, notes: &Notes) -> Result<(), String> {
     same_charges(run, answer, notes)?;
     match &run.end {
         End::Passed => same("the number", &0, &answer.number),
+        End::Listed(list) => {
+            same("the number", &0, &answer.number)?;
+            same("the list", list, &answer.result)
+        }
         End::Tree(tree) => {
             same("the number", &0, &answer.number)?;
             same("the tree", &Some(tree), &notes.result.as_ref().map(tape::weeks_as_days).as_ref())

@@ -11,7 +11,7 @@ use crate::trees::{DEPTH, Ground, MOST_DEFINITIONS, Macro, Style, Trees};
 
 /// The operation of a case is drawn first.
 fn draw(random: &mut Random) -> Operation {
-    OPERATIONS[random.weighted(&[15, 8, 30, 34, 6, 7])]
+    OPERATIONS[random.weighted(&[13, 7, 28, 32, 5, 5, 4, 6])]
 }
 
 pub fn operation(seed: u64, index: u64) -> Operation {
@@ -81,6 +81,7 @@ fn input(random: &mut Random, operation: Operation) -> Input {
     match operation {
         Operation::Check => Input { first: a_definition(g).0, second: None },
         Operation::Registry => Input { first: a_registry(g), second: None },
+        Operation::CheckLibrary | Operation::CheckAt => Input { first: a_library(g), second: None },
         Operation::Substitute => {
             let (first, known) = a_definition(g);
             g.fuel = fuel(g.random);
@@ -151,6 +152,16 @@ fn ill_formed(random: &mut Random, operation: Operation) -> Input {
         _ => texts::spoil(random, &mut input.first),
     }
     input
+}
+
+/// A registry of which none, some or all definitions are refused, now and then as many as a tape has room for.
+fn a_library(g: &mut Trees) -> Node {
+    if g.random.chance(5) {
+        return brim::refused_library(g.random);
+    }
+    g.style.stray = *g.random.pick(&[0, 0, 3, 10, 30]);
+    g.style.plain = *g.random.pick(&[0, 0, 10, 50]);
+    a_registry(g)
 }
 
 // ------------------------------------------------------------------ tapes at a limit
@@ -261,7 +272,7 @@ fn many_calls(random: &mut Random, input: &mut Input, operation: Operation) {
         Operation::Older => input.first = if random.chance(50) { calls } else { condition },
         // A body with calls is accepted, and refused by its check.
         Operation::Check => input.first.children[2] = Node::new(62, 0, vec![condition]),
-        Operation::Registry => {
+        Operation::Registry | Operation::CheckLibrary | Operation::CheckAt => {
             if let Some(definition) = input.first.children.first_mut() {
                 definition.children[2] = Node::new(62, 0, vec![condition]);
             }
@@ -275,7 +286,9 @@ fn many_calls(random: &mut Random, input: &mut Input, operation: Operation) {
 fn result_at_a_limit(random: &mut Random, operation: Operation, file: u16) -> Input {
     let figure = *random.pick(&FIGURES);
     match operation {
-        Operation::Check | Operation::Registry | Operation::Older => at_a_limit(random, operation),
+        Operation::Check | Operation::Registry | Operation::CheckLibrary | Operation::CheckAt | Operation::Older => {
+            at_a_limit(random, operation)
+        }
         Operation::Substitute => {
             let mut input = multiplying(random, figure);
             let call = input.second.clone().expect("a call");
@@ -425,6 +438,14 @@ fn on_tapes(random: &mut Random, operation: Operation, file: u16, input: &Input)
     let mut case = Case { file, ..Case::new(operation, limit_if_any, tapes) };
     if operation.has_counts() {
         case.counts = counts(random);
+    }
+    if operation == Operation::CheckAt {
+        let definitions = input.first.children.len();
+        case.index = match random.weighted(&[85, 10, 5]) {
+            0 => random.below(definitions.max(1)) as u32,
+            1 => (definitions + random.below(2)) as u32,
+            _ => *random.pick(&[255, 256, 1 << 31, u32::MAX]),
+        };
     }
     if operation.charges() && random.chance(55) {
         case.limit = limit(random, model::answer(&case).0.charged as usize) as u32;

@@ -140,7 +140,7 @@ fn record(path: &str, seed: u64, cases: u64) -> Result<bool, String> {
 
 fn show(seed: u64, index: u64) -> bool {
     let case = generate::case(seed, index);
-    println!("{}, limit {}, file {}", case.operation.name(), case.limit, case.file);
+    println!("{}, limit {}, file {}, index {}", case.operation.name(), case.limit, case.file, case.index);
     println!("result, work and message buffer: {:?}", case.sizes);
     for (bytes, root) in case.tapes.iter().zip(case.operation.roots()) {
         match tape::accept(bytes, *root) {

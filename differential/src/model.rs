@@ -86,19 +86,21 @@ pub fn answer(case: &Case) -> (Answer, Notes) {
     let given = if case.operation == Operation::Registry { [0; COUNTS] } else { case.counts };
     let mut answer = Answer { charged: walk.charged, ..Answer::success(given) };
     match outcome {
-        Ok(result) => {
+        Ok(made) => {
             notes.calls = walk.calls;
             if case.operation.has_counts() {
                 notes.calls.iter().for_each(|i| answer.counts[*i] = answer.counts[*i].saturating_add(1));
             }
-            match &result {
-                Some(tree) if case.operation == Operation::Preview => {
+            match &made {
+                Made::Nothing => {}
+                Made::Tree(tree) if case.operation == Operation::Preview => {
                     let measure = tape::measure(tree);
                     answer.size = [measure.entries as u64, measure.text as u64];
                 }
-                _ => answer.result = result.as_ref().map(tape::encode).unwrap_or_default(),
+                Made::Tree(tree) => answer.result = tape::encode(tree),
+                Made::List(list) => answer.result = list.clone(),
             }
-            notes.result = result;
+            notes.result = made.tree();
         }
         Err(refusal) => {
             answer.number = refusal.number;
@@ -126,7 +128,24 @@ pub fn without_limit(case: &Case) -> u64 {
     operate(case, &mut walk, &mut Notes::default()).map_or_else(|refusal| refusal.number, |_| 0)
 }
 
-fn operate(case: &Case, walk: &mut Walk, notes: &mut Notes) -> Result<Option<Node>, Refusal> {
+/// What an operation makes.
+enum Made {
+    Nothing,
+    Tree(Node),
+    /// A list of refused definitions.
+    List(Vec<u8>),
+}
+
+impl Made {
+    fn tree(self) -> Option<Node> {
+        match self {
+            Made::Tree(tree) => Some(tree),
+            _ => None,
+        }
+    }
+}
+
+fn operate(case: &Case, walk: &mut Walk, notes: &mut Notes) -> Result<Made, Refusal> {
     let least = case.operation.buffers();
     if let Some(short) = (0..least.len()).find(|i| case.sizes[*i] < least[*i]) {
         notes.reason = ["result", "work", "message"][short];
@@ -140,15 +159,24 @@ fn operate(case: &Case, walk: &mut Walk, notes: &mut Notes) -> Result<Option<Nod
     }
     (notes.given, notes.trees) = (given, trees.clone());
     match (case.operation, &trees[..]) {
-        (Operation::Check, [definition]) => check(definition).map(|()| None),
-        (Operation::Registry, [definitions]) => registry(definitions).map(|()| None),
-        (Operation::Substitute, [definition, call]) => walk.substitute_whole(definition, call).map(Some),
+        (Operation::Check, [definition]) => check(definition).map(|()| Made::Nothing),
+        (Operation::Registry, [definitions]) => registry(definitions).map(|()| Made::Nothing),
+        (Operation::CheckLibrary, [definitions]) => {
+            registry(definitions)?;
+            Ok(Made::List(refused(definitions)))
+        }
+        (Operation::CheckAt, [definitions]) => {
+            registry(definitions)?;
+            let at = definitions.children.get(case.index as usize);
+            at.map_or(Ok(()), check).map(|()| Made::Nothing)
+        }
+        (Operation::Substitute, [definition, call]) => walk.substitute_whole(definition, call).map(Made::Tree),
         (Operation::Expand | Operation::Preview, [definitions, condition]) => {
             registry(definitions)?;
-            walk.expand_whole(definitions, condition).map(Some)
+            walk.expand_whole(definitions, condition).map(Made::Tree)
         }
         (Operation::Older, [tree]) => match tape::older(tree) {
-            Some(older) => Ok(Some(older)),
+            Some(older) => Ok(Made::Tree(older)),
             None => refuse(52, 0, String::new()),
         },
         _ => unreachable!("a case has as many tapes as its operation has roots"),
@@ -240,6 +268,22 @@ pub fn registry(definitions: &Node) -> Result<(), Refusal> {
         }
     }
     Ok(())
+}
+
+/// The refused definitions of a library: place, number, start and end of each.
+fn refused(definitions: &Node) -> Vec<u8> {
+    let verdicts = definitions.children.iter().map(check).enumerate();
+    verdicts.filter_map(|(i, verdict)| verdict.err().map(|r| listed(i, r.number, r.span))).flatten().collect()
+}
+
+/// How a refused definition stands in the list.
+pub fn listed(place: usize, number: u64, span: u64) -> [u8; 16] {
+    let mut entry = [0; 16];
+    let words = [place as u64, number, tape::span_start(span), tape::span_end(span)];
+    for (word, bytes) in words.into_iter().zip(entry.as_chunks_mut::<4>().0) {
+        *bytes = (word as u32).to_le_bytes();
+    }
+    entry
 }
 
 pub fn check(definition: &Node) -> Result<(), Refusal> {

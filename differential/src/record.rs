@@ -74,6 +74,10 @@ enum Shows {
     Root(u8),
     /// An interval in weeks, behind a 57 or in a within, by what its days are.
     Weeks(bool, &'static str),
+    /// A list with so many refused definitions, of so many different numbers.
+    Listed(usize, usize),
+    /// Where the definition that is asked for stands: first, between, last, behind the last.
+    Asked(&'static str, u64),
     /// Something about the counts.
     Counts(&'static str),
     /// Exactly the limit was charged.
@@ -228,6 +232,24 @@ fn shows(case: &Case, answer: &Answer, notes: &Notes) -> Vec<Shows> {
         }
         tree.visit(&mut |node| all.extend(weeks_below(node)));
     }
+    if case.operation == Operation::CheckLibrary && success {
+        let (entries, _) = answer.result.as_chunks::<16>();
+        let numbers: BTreeSet<u8> = entries.iter().map(|entry| entry[4]).collect();
+        let class = [0, 1, 2, 3, 203, 204].into_iter().rfind(|n| *n <= entries.len()).expect("0 is");
+        all.push(Shows::Listed(class, numbers.len()));
+    }
+    if case.operation == Operation::CheckAt
+        && let [definitions] = &notes.given[..]
+    {
+        let (asked, count) = (case.index as usize, definitions.children.len());
+        let place = match asked {
+            _ if asked >= count => "behind the last",
+            0 => "first",
+            _ if asked + 1 == count => "last",
+            _ => "between",
+        };
+        all.push(Shows::Asked(place, answer.number));
+    }
     if case.operation.has_counts() {
         all.extend(of_counts(case, answer, notes).into_iter().map(Shows::Counts));
     }
@@ -235,7 +257,9 @@ fn shows(case: &Case, answer: &Answer, notes: &Notes) -> Vec<Shows> {
         all.push(Shows::Reserved(answer.message.clone()));
     }
     if answer.number == 20 {
-        let declared = declared(&notes.trees[0]);
+        let asked =
+            if notes.trees[0].code == 60 { &notes.trees[0] } else { &notes.trees[0].children[case.index as usize] };
+        let declared = declared(asked);
         let wide = declared.iter().filter(|name| !name.is_ascii()).count();
         all.push(Shows::Declared(declared.len().min(4), wide.min(4)));
     }

@@ -11,7 +11,8 @@ use std::collections::{BTreeMap, BTreeSet};
 pub fn possible(operation: Operation) -> Vec<u64> {
     match operation {
         Operation::Check => vec![0, 1, 2, 3, 20, 21, 22],
-        Operation::Registry => vec![0, 1, 2, 3, 10, 11],
+        Operation::Registry | Operation::CheckLibrary => vec![0, 1, 2, 3, 10, 11],
+        Operation::CheckAt => vec![0, 1, 2, 3, 10, 11, 20, 21, 22],
         Operation::Substitute => [vec![0, 1, 2, 3, 31, 34, 35], (41..=48).collect()].concat(),
         Operation::Expand | Operation::Preview => [vec![0, 1, 2, 3, 10, 11], (30..=48).collect()].concat(),
         Operation::Older => vec![0, 1, 2, 3, 52],
@@ -80,11 +81,11 @@ impl Tally {
     }
 
     pub fn print(&self) {
-        println!("{:>8}{}", "number", OPERATIONS.map(|op| format!(" {:>10}", op.name())).concat());
+        println!("{:>8}{}", "number", OPERATIONS.map(|op| format!(" {:>13}", op.name())).concat());
         let numbers: BTreeSet<u64> = self.numbers.keys().map(|(n, _)| *n).collect();
         for number in numbers {
             let of = |op| self.numbers.get(&(number, op)).map_or("-".to_string(), u64::to_string);
-            println!("{number:>8}{}", OPERATIONS.map(|op| format!(" {:>10}", of(op))).concat());
+            println!("{number:>8}{}", OPERATIONS.map(|op| format!(" {:>13}", of(op))).concat());
         }
         println!("why 1, 2 and 3:");
         for ((number, reason), count) in &self.reasons {

@@ -1,6 +1,7 @@
 //! Upstream's answer: trees of a tape as upstream's trees, upstream's functions run on them, and their trees back.
 
 use crate::message;
+use crate::model;
 use crate::tape::{self, Node};
 use dogwood::ast::{MacroBody, MacroDef, MacroParam};
 use dogwood::error::Span;
@@ -27,6 +28,8 @@ pub enum End {
     /// Check and registry pass.
     Passed,
     Tree(Node),
+    /// The refused definitions of a library that passes as a registry.
+    Listed(Vec<u8>),
     Refused {
         number: u64,
         span: u64,
@@ -46,6 +49,30 @@ pub fn check(definition: &Node) -> Run {
 
 pub fn registry(definitions: &Node) -> Run {
     plain(adapter::registry(&macro_defs(definitions)))
+}
+
+/// A registry, then each of its definitions alone.
+pub fn check_library(definitions: &Node) -> Run {
+    let mut run = registry(definitions);
+    if run.end == End::Passed {
+        let verdicts = definitions.children.iter().map(|definition| check(definition).end).enumerate();
+        let refused = verdicts.filter_map(|(i, end)| match end {
+            End::Passed => None,
+            End::Refused { number, span, .. } => Some(model::listed(i, number, span)),
+            other => unreachable!("a check ends so: {other:?}"),
+        });
+        run.end = End::Listed(refused.flatten().collect());
+    }
+    run
+}
+
+/// A registry, then one of its definitions alone.
+pub fn check_at(definitions: &Node, index: u32) -> Run {
+    let run = registry(definitions);
+    match definitions.children.get(index as usize) {
+        Some(definition) if run.end == End::Passed => check(definition),
+        _ => run,
+    }
 }
 
 pub fn substitute(definition: &Node, call: &Node, reach: Reach) -> Run {

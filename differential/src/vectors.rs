@@ -13,7 +13,7 @@ pub fn write(vectors: &[(Case, Answer)]) -> Vec<u8> {
         out.push(case.operation.number());
         put_u32(&mut out, case.limit as usize);
         out.extend_from_slice(&case.file.to_le_bytes());
-        out.extend([0; 4]);
+        put_u32(&mut out, case.index as usize);
         out.push(case.tapes.len() as u8);
         case.tapes.iter().for_each(|tape| put_bytes(&mut out, tape));
         case.sizes.iter().for_each(|n| put_u32(&mut out, *n));
@@ -106,16 +106,10 @@ impl<'a> Reader<'a> {
         Ok(counts)
     }
 
-    /// What no operation here has must be 0.
-    fn zeros(&mut self, n: usize) -> Result<(), String> {
-        let known = self.take(n)?.iter().all(|b| *b == 0);
-        if known { Ok(()) } else { Err("a vector of another operation".to_string()) }
-    }
-
     fn vector(&mut self, ours: bool) -> Result<Expected, String> {
         let (operation, limit) = (self.operation()?, self.u32()?);
         let file = u16::from_le_bytes(self.take(2)?.try_into().expect("2 bytes"));
-        self.zeros(4)?;
+        let index = self.u32()?;
         let count = self.take(1)?[0];
         let tapes = (0..count).map(|_| self.bytes()).collect::<Result<_, _>>()?;
         let sizes = [self.u32()? as usize, self.u32()? as usize, self.u32()? as usize];
@@ -131,7 +125,7 @@ impl<'a> Reader<'a> {
             counts = self.counts(length)?;
         }
         let length = if ours { self.u32()? as usize } else { 4 * COUNTS * usize::from(given) };
-        let case = Case { operation, limit, file, counts, tapes, sizes };
+        let case = Case { operation, limit, file, index, counts, tapes, sizes };
         Ok(Expected { case, words, result, message, counts: self.counts(length)? })
     }
 }

@@ -8,7 +8,7 @@ use Rattle.format.specs.Entry.{Entry, entry, textEntry}
 use Rattle.format.specs.Ast.{MacroParam, MacroBody, MacroDef}
 use Rattle.format.specs.Flat.{flatParams, flatBody, flatDef}
 use Rattle.format.specs.Limits.{nodeWeight, deepBody}
-use Rattle.definition.specs.Check.{namesOf, checkBody, checkDef}
+use Rattle.definition.specs.Check.{Verdict, namesOf, checkBody, checkDef}
 use Rattle.definition.proofs.Values.{value-body}
 use Rattle.nodes.specs.Node.{named, bodyAt, paramAt}
 use Rattle.tape.specs.declared.layout.Layout.{Layout}
@@ -19,9 +19,11 @@ use Rattle.message_parts.specs.Names.{namesAt}
 use Rattle.nodes.specs.declared.ParamRead.the-variants.{Param}
 use Rattle.check_parts.specs.declared.Declared.{Declared}
 use Rattle.check_parts.specs.Names.{declaredIn}
-use Rattle.check_body.specs.Definition.{declaring, bodyIn, onBody, defIn}
+use Rattle.answer.specs.Matches.{VerdictMatches}
+use Rattle.walk_state.specs.declared.reading.Checked.{Checked}
+use Rattle.check_body.specs.Definition.{declaring, bodyIn, onBody, defIn, verdictOf}
 use Rattle.check_parts.proofs.Steps.{one-name}
-use Rattle.check_walk.proofs.Right.{Finds, passes, ending, right}
+use Rattle.check_walk.proofs.Right.{Finds, passes, refuses, ending, right}
 
 -- the names of the parameters
 module _ {s : List ℕ} {l : Layout} where
@@ -49,7 +51,7 @@ module _ (s : List ℕ) (d : Declared) (ps : List MacroParam) (declared : declar
       let i = parts-body (MacroBody.TemporalValue t) h in
       rw (i .read, value-body (namesOf ps) t) (ending (i .runs .ends) (right s d (namesOf ps) declared 64 .term t 0 (i .runs .first) m))
 
-pub def-right : {s : List ℕ} {l : Layout} (def : MacroDef) {p : Place} → Inside s l p (flatDef def) → deepBody nodeWeight (def .body) ≤ 64
+def-right : {s : List ℕ} {l : Layout} (def : MacroDef) {p : Place} → Inside s l p (flatDef def) → deepBody nodeWeight (def .body) ≤ 64
     → Finds s l (defIn s l p) (past (flatDef def) p) (checkDef def)
 unfolding defIn checkDef
 def-right {s} {l} def h m =
@@ -58,3 +60,12 @@ def-right {s} {l} def h m =
     rw (i .parts .read, past-params (def .params) (runs .first))
     (ending (runs .ends)
     (body-right s (declaring l _ (length (def .params))) (def .params) (names-right (def .params) (runs .first)) (def .body) _ (runs .second) m))
+
+verdict-matches : {s : List ℕ} {l : Layout} {x : Checked} {end : Place} {v : Verdict} → Finds s l x end v → VerdictMatches s l (verdictOf x) v
+unfolding VerdictMatches
+verdict-matches (passes e) = rw e tt
+verdict-matches (refuses e same) = rw e same
+
+pub def-matches : {s : List ℕ} {l : Layout} (def : MacroDef) {p : Place} → Inside s l p (flatDef def) → deepBody nodeWeight (def .body) ≤ 64
+    → VerdictMatches s l (verdictOf (defIn s l p)) (checkDef def)
+def-matches def h m = verdict-matches (def-right def h m)

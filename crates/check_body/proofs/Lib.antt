@@ -1,4 +1,4 @@
 -- The laws that several proofs of the crate cite.
 mod Steps
-mod Definitions
+pub mod Definitions
 mod Operation

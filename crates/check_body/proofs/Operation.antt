@@ -5,7 +5,7 @@ use mathlib.Core.Path.{_≡_, sym, subst, _∙_}
 use mathlib.Core.List.{List}
 use Rattle.grammar.specs.Grammar as grammar
 use Rattle.format.specs.Tape.{Bytes, definitionRoot}
-use Rattle.definition.specs.Check.{Verdict, checkDef}
+use Rattle.definition.specs.Check.{checkDef}
 use Rattle.definition.specs.Answers.{Answer, messageAlone, checkAnswer}
 use Rattle.definition.proofs.Kept.{check-bounded}
 use Rattle.definition.proofs.Withdrawn.{check-as-given}
@@ -13,21 +13,14 @@ use Rattle.format.proofs.Rewritten.{rewrites-definition}
 use Rattle.tape.specs.Accept.{acceptOf}
 use Rattle.tape.specs.declared.header.Opened.the-variants.{Tape}
 use Rattle.tape.specs.declared.layout.Layout.{Layout}
-use Rattle.tape.specs.declared.layout.Place.{Place}
 use Rattle.tape.proofs.Located.{accepted-inside}
 use Rattle.tape.proofs.Roots.{definition-root, accepted-root, given-64}
-use Rattle.answer.specs.Matches.{VerdictMatches, AnswersVerdict}
+use Rattle.answer.specs.Matches.{AnswersVerdict}
 use Rattle.answer.specs.declared.Verdict as code
 use Rattle.answer.proofs.Operations.{message-verdict}
 use Rattle.walk_state.specs.declared.reading.Checked.{Checked}
 use Rattle.check_body.specs.Definition.{defIn, verdictOf}
-use Rattle.check_walk.proofs.Right.{Finds, passes, refuses}
-use Rattle.check_body.proofs.Definitions.{def-right}
-
-verdict-matches : {s : List ℕ} {l : Layout} {x : Checked} {end : Place} {v : Verdict} → Finds s l x end v → VerdictMatches s l (verdictOf x) v
-unfolding VerdictMatches
-verdict-matches (passes e) = rw e tt
-verdict-matches (refuses e same) = rw e same
+use Rattle.check_body.proofs.Definitions.{def-matches}
 
 module _ (m : ℕ) (s : List ℕ) {a : Answer} where
   pub checked-definition : {l : Layout} {w : Checked} {v : code.Verdict} → Bytes s → 2048 ≤ m → acceptOf s grammar.definition ≡ Tape l
@@ -35,7 +28,7 @@ module _ (m : ℕ) (s : List ℕ) {a : Answer} where
   unfolding definitionRoot
   checked-definition {l} {w} {v} bytes long e p q ends =
       let x = accepted-root definition-root s bytes l e in
-      let found = def-right (x .0) (accepted-inside definition-root (x .1)) (given-64 rewrites-definition (x .1)) in
+      let matches = def-matches (x .0) (accepted-inside definition-root (x .1)) (given-64 rewrites-definition (x .1)) in
       let given = check-as-given m s bytes in
       message-verdict definitionRoot definition-root checkDef m s l v long (x .1 .reading)
-      (subst (λ (b : Answer). b .messageLength ≤ 2048) given (check-bounded m s bytes .short-message)) (rw (q, p) (verdict-matches found)) ends ∙ sym given
+      (subst (λ (b : Answer). b .messageLength ≤ 2048) given (check-bounded m s bytes .short-message)) (rw (q, p) matches) ends ∙ sym given

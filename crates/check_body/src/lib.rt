@@ -40,8 +40,8 @@ fn check_body(s: &[u8], d: Declared, node: BodyNode, next: Place) -> Checked
     }
 }
 
-// The definition that stands at a place.
-fn check_def(s: &[u8], l: Layout, p: Place) -> Checked
+// The definition that stands at a place: of a tape of its own, or of a registry's.
+pub fn check_def(s: &[u8], l: Layout, p: Place) -> Checked
     ensures { λ r. ⌜ r ≡ defIn (now (s .entry)) l p ⌝ }
 {
     let HeadingRead::Node(heading, params) = read_heading(s, l, p, 60) else {
@@ -62,7 +62,7 @@ fn check_def(s: &[u8], l: Layout, p: Place) -> Checked
     }
 }
 
-fn verdict_of(w: Checked) -> Verdict
+pub fn verdict_of(w: Checked) -> Verdict
     ensures { λ r. ⌜ r ≡ verdictOf w ⌝ }
 {
     match w {

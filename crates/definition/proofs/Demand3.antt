@@ -66,7 +66,7 @@ passed definition def h p =
     let long : leb 2048 (p .messageLength) ≡ true = le-leb 2048 (p .messageLength) (p .long-enough) in
     verdict-passes _ _ (checkDef def) (numbered-def def) (rw (long, h) at (p .no-20)) (rw (long, h) at (p .no-21)) (rw (long, h) at (p .no-22))
 
-safe-answer : (b : Buffers) (o : Outcome Tree) → Leaves FreeTree o → SafeAnswer b (treeAnswer b o)
+pub safe-answer : (b : Buffers) (o : Outcome Tree) → Leaves FreeTree o → SafeAnswer b (treeAnswer b o)
 unfolding treeAnswer answer numberAlone allowed
 safe-answer b o g = go (longBuffers b)
   where

@@ -14,6 +14,7 @@ pub mod Size
 pub mod Collected
 pub mod Counts
 pub mod Preview
+pub mod Library
 pub mod Decimal
 mod Good
 pub mod Values

@@ -2,6 +2,7 @@
 -- of every text of the trees.
 -- Assumes nothing.
 use Prim.Native.Nat.{ℕ}
+use native.Mathlib.Omega.{arith}
 use mathlib.Core.Logic.{_≢_}
 use mathlib.Core.List.{List, [], _∷_}
 use mathlib.Core.Bool.{Bool, true, false, _||_}
@@ -204,3 +205,7 @@ numbered-def def =
     given-body Any (namesOf (def .params))
     (record { undeclared = λ n h s. tt; plain = λ n h s. tt; called = λ s. tt })
     (def .body) (all-any (flatBody (def .body)))
+
+-- no refusal of a registry has the number of success
+pub nonzero-build : (defs : List MacroDef) → Given (λ (x : Refusal). x .number ≢ 0) (build defs)
+nonzero-build defs = given-build Any (record { reserved = λ n h s e. omega arith; duplicate = λ n h s prev e. omega arith }) defs (all-any defs)

@@ -117,9 +117,17 @@ checkAnswer m definition = messageAnswer m (reading (read definitionRoot definit
 unfoldable pub registryAnswer : ℕ → List ℕ → Answer
 registryAnswer m registry = messageAnswer m (reading (read registryRoot registry) λ defs. verdict (build defs))
 
+-- ------------------------------------------------------------------ operations of document 02 with result and message
+
+abbrev pub withoutWork : ℕ → ℕ → Buffers
+withoutWork r m = record { resultLength = r; workLength = 0; messageLength = m }
+
+unfoldable pub resultAnswer : {A : Type 0} → (A → List ℕ) → (r m : ℕ) → Outcome A → Answer
+resultAnswer tape r m o = answer tape (withoutWork r m) (elim (leb 12296 r && leb 2048 m) [ true ↦ o | false ↦ numberAlone 1 ])
+
 -- Whoever unfolds this unfolds every definition of this file.
 unfoldable pub openAnswers : Unit {0}
 unfolding
     padded answer numberAlone reading longBuffers treeAnswer expandTapes expandAnswer substituteTapes substituteAnswer
-    verdict messageAnswer checkAnswer registryAnswer
+    verdict messageAnswer checkAnswer registryAnswer resultAnswer
 openAnswers = tt

@@ -14,6 +14,7 @@ pub mod Counts
 pub mod Preview
 pub mod Demand3
 pub mod Residue
+pub mod Library
 pub mod Names
 pub mod Lengthened
 pub mod Kept

@@ -10,6 +10,7 @@ ghost use Rattle.definition.specs.Answers.{checkAnswer, registryAnswer, substit
 ghost use Rattle.definition.specs.Older.{olderAnswer};
 ghost use Rattle.definition.specs.Counts.{freshCounts, expandCounts};
 ghost use Rattle.definition.specs.Preview.{previewAnswer};
+ghost use Rattle.definition.specs.Library.{libraryAnswer, checkAtAnswer};
 ghost use Rattle.answer.specs.Matches.{buffers};
 ghost use Rattle.neukolja.specs.Words.{wordsOf, wordsWith, sevenOf, sevenWith};
 
@@ -65,6 +66,33 @@ pub extern "C" fn neukolja_registry(
     let fresh = state.of;
     *counts = fresh;
     write_words(built.answer, answer);
+}
+
+#[no_mangle]
+pub extern "C" fn neukolja_check_library(
+    registry: &[u8],
+    result: &mut [u8],
+    message: &mut [u8],
+    answer: &mut [u64; 5],
+)
+    ensures { λ _. ⌜ wordsWith (now (answer .exit)) (now (result .exit)) [] (now (message .exit)) ≡ libraryAnswer (length (now (result .entry))) (length (now (message .entry))) (now (registry .entry)) ⌝ }
+{
+    write_words(
+        check_library::check_library(registry, result, message),
+        answer,
+    );
+}
+
+#[no_mangle]
+pub extern "C" fn neukolja_check_at(
+    registry: &[u8],
+    index: u32,
+    message: &mut [u8],
+    answer: &mut [u64; 5],
+)
+    ensures { λ _. ⌜ wordsWith (now (answer .exit)) [] [] (now (message .exit)) ≡ checkAtAnswer (length (now (message .entry))) (now (registry .entry)) index ⌝ }
+{
+    write_words(check_library::check_at(registry, index, message), answer);
 }
 
 #[no_mangle]

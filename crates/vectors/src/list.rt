@@ -8,6 +8,7 @@ pub struct Vector {
     pub kind: usize,
     pub limit: u32,
     pub file: u16,
+    pub index: u32,
     pub first: usize,
     pub second: usize,
     pub sizes: usize,
@@ -66,6 +67,7 @@ fn kind_of(operation: u32, number: u64) -> usize {
 pub fn read_vector(s: &[u8], at: usize) -> Vector {
     let limit = read_size(s, past(s, at, 1));
     let file = (read_size(s, past(s, at, 5)) % 65536) as u16;
+    let index = read_size(s, past(s, at, 7));
     let tapes = read_size(s, past(s, at, 11)) % 256;
     let first = past(s, at, 12);
     let second = past_bytes(s, first);
@@ -79,6 +81,7 @@ pub fn read_vector(s: &[u8], at: usize) -> Vector {
         kind: kind_of(read_size(s, at) % 256, read_value(s, numbers)),
         limit,
         file,
+        index,
         first,
         second,
         sizes,

@@ -114,7 +114,6 @@ fn run(
     let first = bytes(s, v.first);
     let second = bytes(s, v.second);
     let limit = v.limit;
-    let file = v.file;
     match v.kind / 64 {
         1 => without_sizes(check_body::check(first, message)),
         2 => without_sizes(build(first, message, counts)),
@@ -122,18 +121,20 @@ fn run(
             first,
             second,
             limit,
-            file,
+            v.file,
             result,
             work,
             message,
         )),
-        5 => preview::preview(first, second, limit, file, work, message),
+        5 => preview::preview(first, second, limit, v.file, work, message),
+        6 => without_sizes(check_library::check_library(first, result, message)),
+        7 => without_sizes(check_library::check_at(first, v.index, message)),
         10 => without_sizes(older::older(first, result)),
         _ => without_sizes(expansion::expand_lent(
             first,
             second,
             limit,
-            file,
+            v.file,
             result,
             work,
             message,

@@ -26,6 +26,8 @@ fn print_operation(operation: usize) -> bool {
         3 => io::write_all(STDOUT_FILENO, b"substitute "),
         4 => io::write_all(STDOUT_FILENO, b"expand "),
         5 => io::write_all(STDOUT_FILENO, b"preview "),
+        6 => io::write_all(STDOUT_FILENO, b"check_library "),
+        7 => io::write_all(STDOUT_FILENO, b"check_at "),
         10 => io::write_all(STDOUT_FILENO, b"older "),
         _ => io::write_all(STDOUT_FILENO, b"unknown "),
     }

@@ -1,0 +1,8 @@
+-- The theorem first, then the laws that several proofs of the crate cite.
+pub mod Returned
+mod Lower
+mod Short
+mod Steps
+mod AsGiven
+mod Standing
+mod Operation
