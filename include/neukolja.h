@@ -84,6 +84,8 @@ enum {
     NEUKOLJA_NOT_AN_IDENTIFIER = 46,
     NEUKOLJA_NOT_A_PREDICATE = 47,      /* fields are given to what is no predicate */
     NEUKOLJA_CALL_MET_IN_BODY = 48,
+    NEUKOLJA_DEFINITIONS_DIFFER = 51,   /* merge alone: a name that both registries have is defined otherwise in
+                                           the second */
     NEUKOLJA_OUT_OF_RANGE = 52          /* the older tape alone: seven times an amount of weeks has no 64 bits */
 };
 
@@ -160,6 +162,18 @@ void neukolja_preview(const uint8_t *registry, size_t registry_length,
                       uint8_t *work, size_t work_length,
                       uint8_t *message, size_t message_length,
                       uint64_t answer[7]);
+
+/* Two registries joined, each a tape whose root is a list of 60: the definitions of the first in order, then those of the second
+ * whose names the first lacks. A name that both have is kept once, as the first has it, if the two definitions agree in everything
+ * but spans; the first of the second's that does not is NEUKOLJA_DEFINITIONS_DIFFER, with its span. Both tapes must pass
+ * neukolja_registry, the first before the second. Nothing is charged.
+ * result:  the tape of the joined registry, then zeros to the end; all zeros on a refusal.
+ * message: the message of a refusal, then zeros to the end; all zeros on success. */
+void neukolja_merge(const uint8_t *first, size_t first_length,
+                    const uint8_t *second, size_t second_length,
+                    uint8_t *result, size_t result_length,
+                    uint8_t *message, size_t message_length,
+                    uint64_t answer[5]);
 
 /* The older tape, for heads that know no weeks: a tape of a condition, a definition (60), a call (54), a list of 60 or a lone term
  * (20 to 33; the first code tells which), each interval in weeks (64) turned into days (51) at seven times the amount. A tape

@@ -27,6 +27,7 @@ fn deepest() -> Vec<(&'static str, Case)> {
         all.push((body, Case::new(Operation::CheckLibrary, 0, vec![registry(left)])));
         all.push((body, Case::new(Operation::CheckAt, 0, vec![registry(left)])));
         all.push((body, Case::new(Operation::Substitute, u32::MAX, vec![one, called])));
+        all.push((body, Case::new(Operation::Merge, 0, vec![registry(left), registry(left)])));
         all.push((body, Case::new(Operation::Older, 0, vec![registry(left)])));
         let deep = encode(&deep_rule(left));
         for operation in [Operation::Expand, Operation::Preview] {

@@ -56,6 +56,11 @@ mod functions {
             registry: *const u8, registry_len: usize, index: u32, message: *mut u8, message_len: usize,
             answer: *mut [u64; 5],
         );
+        #[cfg(archive_has = "merge")]
+        fn neukolja_merge(
+            first: *const u8, first_len: usize, second: *const u8, second_len: usize,
+            result: *mut u8, result_len: usize, message: *mut u8, message_len: usize, answer: *mut [u64; 5],
+        );
         #[cfg(archive_has = "older")]
         fn neukolja_older(
             tape: *const u8, tape_len: usize, result: *mut u8, result_len: usize, answer: *mut [u64; 5],
@@ -74,6 +79,7 @@ mod functions {
                 Operation::Preview => cfg!(archive_has = "preview"),
                 Operation::CheckLibrary => cfg!(archive_has = "check_library"),
                 Operation::CheckAt => cfg!(archive_has = "check_at"),
+                Operation::Merge => cfg!(archive_has = "merge"),
                 Operation::Older => cfg!(archive_has = "older"),
             }
         }
@@ -119,6 +125,11 @@ mod functions {
                     Operation::CheckAt => {
                         neukolja_check_at(a.as_ptr(), a.len(), case.index, m.as_mut_ptr(), m.len(), answer)
                     }
+                    #[cfg(archive_has = "merge")]
+                    Operation::Merge => neukolja_merge(
+                        a.as_ptr(), a.len(), b.as_ptr(), b.len(),
+                        r.as_mut_ptr(), r.len(), m.as_mut_ptr(), m.len(), answer,
+                    ),
                     #[cfg(archive_has = "older")]
                     Operation::Older => neukolja_older(a.as_ptr(), a.len(), r.as_mut_ptr(), r.len(), answer),
                     #[allow(unreachable_patterns)]

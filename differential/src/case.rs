@@ -11,10 +11,11 @@ pub enum Operation {
     Preview,
     CheckLibrary,
     CheckAt,
+    Merge,
     Older,
 }
 
-pub const OPERATIONS: [Operation; 8] = [
+pub const OPERATIONS: [Operation; 9] = [
     Operation::Check,
     Operation::Registry,
     Operation::Substitute,
@@ -22,6 +23,7 @@ pub const OPERATIONS: [Operation; 8] = [
     Operation::Preview,
     Operation::CheckLibrary,
     Operation::CheckAt,
+    Operation::Merge,
     Operation::Older,
 ];
 
@@ -35,6 +37,7 @@ impl Operation {
             Operation::Preview => "preview",
             Operation::CheckLibrary => "check_library",
             Operation::CheckAt => "check_at",
+            Operation::Merge => "merge",
             Operation::Older => "older",
         }
     }
@@ -49,6 +52,7 @@ impl Operation {
             Operation::Preview => 5,
             Operation::CheckLibrary => 6,
             Operation::CheckAt => 7,
+            Operation::Merge => 9,
             Operation::Older => 10,
         }
     }
@@ -60,6 +64,7 @@ impl Operation {
             Operation::Registry | Operation::CheckLibrary | Operation::CheckAt => &[Sort::Definitions],
             Operation::Substitute => &[Sort::Definition, Sort::Call],
             Operation::Expand | Operation::Preview => &[Sort::Definitions, Sort::Condition],
+            Operation::Merge => &[Sort::Definitions, Sort::Definitions],
             Operation::Older => &[Sort::Any],
         }
     }
@@ -68,7 +73,7 @@ impl Operation {
     pub fn buffers(self) -> [usize; 3] {
         match self {
             Operation::Check | Operation::Registry | Operation::CheckAt => [0, 0, LEAST_MESSAGE],
-            Operation::CheckLibrary => [LEAST_RESULT, 0, LEAST_MESSAGE],
+            Operation::CheckLibrary | Operation::Merge => [LEAST_RESULT, 0, LEAST_MESSAGE],
             Operation::Substitute | Operation::Expand => [LEAST_RESULT, LEAST_WORK, LEAST_MESSAGE],
             Operation::Preview => [0, LEAST_WORK, LEAST_MESSAGE],
             Operation::Older => [LEAST_RESULT, 0, 0],

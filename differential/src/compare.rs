@@ -4,6 +4,7 @@ use crate::case::{Answer, COUNTS, Case, Counts, Operation, Words};
 use crate::model::{self, Notes, TooLarge};
 use crate::tape::{self, LARGEST, Node, Sort};
 use crate::upstream::{self, End, Reach, Run};
+use std::collections::BTreeSet;
 
 /// Who stands behind an expected answer.
 #[derive(Clone, Copy, Debug, PartialEq, Eq, PartialOrd, Ord)]
@@ -29,7 +30,7 @@ pub const WITNESSES: [(Witness, &str); 6] = [
     (Witness::UpstreamMadeIt, "3 of a whole result, which upstream made"),
     (Witness::UpstreamHalted, "3 of a call, where upstream was halted"),
     (Witness::UpstreamSubstituted, "3 of a call's outcome, which upstream made"),
-    (Witness::ModelAlone, "1, 2 or 3 of a tape, or the older tape: decided by the model alone"),
+    (Witness::ModelAlone, "1, 2 or 3 of a tape, a merge, or the older tape: decided by the model alone"),
 ];
 
 /// The answer that a case must have: the model's, after upstream was heard.
@@ -64,8 +65,11 @@ fn hear_upstream(case: &Case, answer: &Answer, notes: &Notes) -> Result<Witness,
     let [given, trees] =
         [&notes.given, &notes.trees].map(|trees| trees.iter().map(tape::weeks_as_days).collect::<Vec<_>>());
     // Checks and registry answer the same of the trees as they were given.
-    if !case.operation.charges() {
+    if !case.operation.charges() && case.operation != Operation::Merge {
         same("the trees with Or", &run(case, &given, Reach::limit(0)), &run(case, &trees, Reach::limit(0)))?;
+    }
+    if case.operation == Operation::Merge {
+        return hear_of_merge(&trees, answer, notes);
     }
     let run = |reach: Reach| {
         let others: Vec<Node> = trees.iter().map(upstream::with_other_starts).collect();
@@ -81,6 +85,7 @@ fn hear_upstream(case: &Case, answer: &Answer, notes: &Notes) -> Result<Witness,
             Ok(if trees == notes.trees { Witness::Upstream } else { Witness::UpstreamWithDays })
         }
         Some(TooLarge::Whole { result }) => made(&run(whole), answer, result).map(|()| Witness::UpstreamMadeIt),
+        Some(TooLarge::Merged) => unreachable!("not a walk's"),
         Some(TooLarge::Call { body }) => {
             let halted = run(Reach { charges: notes.charges, ..whole });
             halted_there(&halted, *body, answer, notes).map(|()| Witness::UpstreamHalted)
@@ -111,6 +116,31 @@ fn run(case: &Case, trees: &[Node], reach: Reach) -> Run {
         }
         _ => unreachable!("all tapes were read"),
     }
+}
+
+/// Upstream says 10 and 11 of both registries, takes the merged one as a registry, and expands calls of the first one's
+/// definitions with both to the same.
+fn hear_of_merge(trees: &[Node], answer: &Answer, notes: &Notes) -> Result<Witness, String> {
+    for registry in trees {
+        let run = upstream::registry(registry);
+        if run.end != End::Passed {
+            return agrees(&run, answer, notes).map(|()| Witness::Upstream);
+        }
+    }
+    let Some(merged) = notes.result.as_ref().map(tape::weeks_as_days) else { return Ok(Witness::ModelAlone) };
+    same("the merged registry", &upstream::registry(&merged).end, &End::Passed)?;
+    let names = |registry: &Node| registry.children.iter().map(|d| model::name(d).to_vec()).collect::<BTreeSet<_>>();
+    let both = names(&trees[0]).union(&names(&trees[1])).cloned().collect();
+    same("the merged registry's names", &names(&merged), &both)?;
+    for definition in trees[0].children.iter().take(4) {
+        let argument = Node::new(56, 0, vec![Node::with_text(27, b"q")]);
+        let arguments = Node::counted(41, 1, vec![argument; definition.children[1].value as usize]);
+        let call = Node::new(54, tape::span(7, 9), vec![definition.children[0].clone(), arguments]);
+        let condition = Node::new(11, 0, vec![call]);
+        let with = |registry: &Node| upstream::expand(registry, &condition, Reach::limit(u32::MAX as usize));
+        same("an expansion with the merged registry", &with(&merged), &with(&trees[0]))?;
+    }
+    Ok(Witness::ModelAlone)
 }
 
 /// A head without weeks reads the older tape, with intervals of equal length and nothing else changed.

@@ -3,6 +3,7 @@
 use crate::brim::{self, FIGURES, Figure};
 use crate::case::{Case, Counts, OPERATIONS, Operation};
 use crate::damage::damage;
+use crate::merge;
 use crate::model::{self, Walk};
 use crate::random::Random;
 use crate::tape::{self, LARGEST_CALLS, LARGEST_PARAMETERS, LARGEST_TEXT, Node, UNBOUNDED};
@@ -11,7 +12,7 @@ use crate::trees::{DEPTH, Ground, MOST_DEFINITIONS, Macro, Style, Trees};
 
 /// The operation of a case is drawn first.
 fn draw(random: &mut Random) -> Operation {
-    OPERATIONS[random.weighted(&[13, 7, 28, 32, 5, 5, 4, 6])]
+    OPERATIONS[random.weighted(&[12, 6, 26, 31, 5, 4, 4, 7, 5])]
 }
 
 pub fn operation(seed: u64, index: u64) -> Operation {
@@ -95,6 +96,12 @@ fn input(random: &mut Random, operation: Operation) -> Input {
             let first = a_registry(g);
             g.fuel = fuel(g.random);
             Input { first, second: Some(g.condition(Ground::Entered, DEPTH)) }
+        }
+        Operation::Merge => {
+            let first = a_registry(g);
+            g.fuel = fuel(g.random);
+            let second = if g.random.chance(90) { merge::second(g, &first) } else { a_registry(g) };
+            Input { first, second: Some(second) }
         }
         Operation::Older => {
             g.style.weeks = *g.random.pick(&[0, 20, 60, 60]);
@@ -272,7 +279,7 @@ fn many_calls(random: &mut Random, input: &mut Input, operation: Operation) {
         Operation::Older => input.first = if random.chance(50) { calls } else { condition },
         // A body with calls is accepted, and refused by its check.
         Operation::Check => input.first.children[2] = Node::new(62, 0, vec![condition]),
-        Operation::Registry | Operation::CheckLibrary | Operation::CheckAt => {
+        Operation::Registry | Operation::CheckLibrary | Operation::CheckAt | Operation::Merge => {
             if let Some(definition) = input.first.children.first_mut() {
                 definition.children[2] = Node::new(62, 0, vec![condition]);
             }
@@ -289,6 +296,7 @@ fn result_at_a_limit(random: &mut Random, operation: Operation, file: u16) -> In
         Operation::Check | Operation::Registry | Operation::CheckLibrary | Operation::CheckAt | Operation::Older => {
             at_a_limit(random, operation)
         }
+        Operation::Merge => merge_at_a_limit(random, figure),
         Operation::Substitute => {
             let mut input = multiplying(random, figure);
             let call = input.second.clone().expect("a call");
@@ -305,6 +313,34 @@ fn result_at_a_limit(random: &mut Random, operation: Operation, file: u16) -> In
         }
         Operation::Expand | Operation::Preview => expansion_at_a_limit(random, figure, file),
     }
+}
+
+/// Two registries that have, merged, so many entries or so much text.
+fn merge_at_a_limit(random: &mut Random, figure: Figure) -> Input {
+    let figure = if figure == Figure::Nesting { Figure::Entries } else { figure };
+    let mut input = input(random, Operation::Merge);
+    let mut added = inner_macro(random, figure);
+    added.children[0] = Node::with_text(40, b"added behind");
+    let second = input.second.as_mut().expect("two registries");
+    second.children.push(added);
+    second.value += 1;
+    let rewritten = [&input.first, &*second].map(tape::withdrawn);
+    if let Ok(merged) = merge::merged(&rewritten[0], &rewritten[1])
+        && let Some(more) = brim::missing(random, figure, &tape::measure(&merged))
+    {
+        let (half, rest) = (more / 2, more - more / 2);
+        let last = second.children.last_mut().expect("one was added");
+        brim::grow_inside(&mut last.children[2], figure, rest);
+        match input.first.children.iter_mut().find(|d| d.children[2].code != 61 && !shared(second, d)) {
+            Some(own) => drop(brim::grow_inside(&mut own.children[2], figure, half)),
+            None => drop(brim::grow_inside(&mut second.children.last_mut().expect("one").children[2], figure, half)),
+        }
+    }
+    input
+}
+
+fn shared(registry: &Node, definition: &Node) -> bool {
+    registry.children.iter().any(|d| model::name(d) == model::name(definition))
 }
 
 /// A definition that pastes its argument several times, and a call with a large argument.

@@ -4,6 +4,7 @@
 //! limit can end a walk anywhere, the walks are here too; wherever no limit comes, upstream has to agree with them.
 
 use crate::case::{Answer, COUNTS, Case, Operation, Words};
+use crate::merge;
 use crate::message;
 use crate::tape::{self, LARGEST, LARGEST_CALLS, Largest, Measure, Node, Over, Sort, UNBOUNDED, Unread};
 use std::collections::BTreeSet;
@@ -36,6 +37,8 @@ pub enum TooLarge {
     Outcome { definition: Node, call: Node, outcome: Node, charged_before: u64 },
     /// The whole result.
     Whole { result: Node },
+    /// The merged registry.
+    Merged,
 }
 
 /// What the model found out about a case beside its answer.
@@ -175,6 +178,11 @@ fn operate(case: &Case, walk: &mut Walk, notes: &mut Notes) -> Result<Made, Refu
             registry(definitions)?;
             walk.expand_whole(definitions, condition).map(Made::Tree)
         }
+        (Operation::Merge, [first, second]) => {
+            registry(first)?;
+            registry(second)?;
+            walk.merge(first, second).map(Made::Tree)
+        }
         (Operation::Older, [tree]) => match tape::older(tree) {
             Some(older) => Ok(Made::Tree(older)),
             None => refuse(52, 0, String::new()),
@@ -207,7 +215,7 @@ fn refusal_of(unread: Unread, notes: &mut Notes) -> Refusal {
 
 // ------------------------------------------------------------------ parts of trees
 
-fn name(node: &Node) -> &[u8] {
+pub fn name(node: &Node) -> &[u8] {
     &node.children[0].text
 }
 
@@ -392,6 +400,15 @@ impl Walk {
         self.measured.push((what, m));
         self.over = m.over(&self.largest);
         self.over.is_some()
+    }
+
+    fn merge(&mut self, first: &Node, second: &Node) -> Result<Node, Refusal> {
+        let merged = merge::merged(first, second)?;
+        if self.is_over(Measured::Whole, &merged) {
+            self.too_large = Some(TooLarge::Merged);
+            return refuse(3, 0, String::new());
+        }
+        Ok(merged)
     }
 
     // -------------------------------------------------------------- substitution

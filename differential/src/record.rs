@@ -78,6 +78,10 @@ enum Shows {
     Listed(usize, usize),
     /// Where the definition that is asked for stands: first, between, last, behind the last.
     Asked(&'static str, u64),
+    /// What a merge has kept once, and whether something was added.
+    Merged(&'static str, bool),
+    /// What each of two registries is by its names: 0, 10 or 11.
+    NamesOfBoth(u64, u64),
     /// Something about the counts.
     Counts(&'static str),
     /// Exactly the limit was charged.
@@ -183,7 +187,10 @@ fn smallest(seed: u64, cases: u64) -> Result<Vec<Candidate>, String> {
 
 fn shows(case: &Case, answer: &Answer, notes: &Notes) -> Vec<Shows> {
     let success = answer.number == 0;
-    let mut all = vec![Shows::Number(answer.number, notes.cause.0, notes.cause.1)];
+    // Of two definitions that differ: what the first one has there, and whether the other has that code too.
+    let apart = answer.number == 51 && notes.cause.0 != notes.cause.1;
+    let found = if apart { 0 } else { notes.cause.1 };
+    let mut all = vec![Shows::Number(answer.number, notes.cause.0, found)];
     all.extend(notes.events.iter().map(|e| Shows::Event(e)));
     all.extend(of_refusals(case, answer, notes));
     if !notes.given.is_empty() {
@@ -237,6 +244,13 @@ fn shows(case: &Case, answer: &Answer, notes: &Notes) -> Vec<Shows> {
         let numbers: BTreeSet<u8> = entries.iter().map(|entry| entry[4]).collect();
         let class = [0, 1, 2, 3, 203, 204].into_iter().rfind(|n| *n <= entries.len()).expect("0 is");
         all.push(Shows::Listed(class, numbers.len()));
+    }
+    if let (Operation::Merge, [first, second]) = (case.operation, &notes.trees[..]) {
+        let names = |registry| model::registry(registry).map_or_else(|refusal| refusal.number, |()| 0);
+        all.push(Shows::NamesOfBoth(names(first), names(second)));
+    }
+    if let (Operation::Merge, [first, second], Some(merged)) = (case.operation, &notes.given[..], &notes.result) {
+        all.push(Shows::Merged(kept_once(first, second), merged.children.len() > first.children.len()));
     }
     if case.operation == Operation::CheckAt
         && let [definitions] = &notes.given[..]
@@ -329,6 +343,18 @@ fn at_limits(tree: &Node) -> Vec<&'static str> {
         _ => {}
     });
     all
+}
+
+fn kept_once(first: &Node, second: &Node) -> &'static str {
+    let twice = |d: &&Node| first.children.iter().any(|own| model::name(own) == model::name(d));
+    let kept: Vec<&Node> = second.children.iter().filter(twice).collect();
+    match kept.len() {
+        0 => "nothing",
+        _ if kept.iter().all(|d| first.children.contains(d)) => "as it is",
+        _ if kept.iter().any(|d| tape::withdrawn(d) != **d) => "with an Or",
+        1 => "one with other spans",
+        _ => "several with other spans",
+    }
 }
 
 fn of_counts(case: &Case, answer: &Answer, notes: &Notes) -> Vec<&'static str> {

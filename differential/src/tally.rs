@@ -15,6 +15,7 @@ pub fn possible(operation: Operation) -> Vec<u64> {
         Operation::CheckAt => vec![0, 1, 2, 3, 10, 11, 20, 21, 22],
         Operation::Substitute => [vec![0, 1, 2, 3, 31, 34, 35], (41..=48).collect()].concat(),
         Operation::Expand | Operation::Preview => [vec![0, 1, 2, 3, 10, 11], (30..=48).collect()].concat(),
+        Operation::Merge => vec![0, 1, 2, 3, 10, 11, 51],
         Operation::Older => vec![0, 1, 2, 3, 52],
     }
 }
@@ -138,6 +139,7 @@ pub fn reason(answer: &Answer, notes: &Notes) -> Option<String> {
         Some(TooLarge::Call { .. }) => "of a 54 with its arguments: ",
         Some(TooLarge::Outcome { .. }) => "of a call's outcome: ",
         Some(TooLarge::Whole { .. }) => "of the whole result: ",
+        Some(TooLarge::Merged) => "of the merged registry: ",
         None if answer.number == 3 => "of a tape: ",
         None => "",
     };

@@ -89,7 +89,7 @@ const RESERVED: [&str; 17] = [
 
 impl Trees<'_> {
     /// Runs `make` with a random share of the fuel, and leaves the rest for what comes next.
-    fn share<T>(&mut self, make: impl FnOnce(&mut Self) -> T) -> T {
+    pub fn share<T>(&mut self, make: impl FnOnce(&mut Self) -> T) -> T {
         let fuel = self.fuel;
         let share = self.random.below(fuel + 1);
         self.fuel = share;

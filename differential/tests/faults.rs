@@ -54,7 +54,7 @@ fn the_model_itself_passes() {
 
 #[test]
 fn wrong_answers_are_noticed() {
-    let changes: [(&str, Change); 16] = [
+    let changes: [(&str, Change); 17] = [
         ("refuses each call", |case, answer| {
             if case.operation.charges() && answer.charged > 0 {
                 *answer = Answer { number: 30, ..Answer::success(case.counts) };
@@ -105,6 +105,11 @@ fn wrong_answers_are_noticed() {
         ("counts definitions from 1", |case, answer| {
             if case.operation == Operation::CheckLibrary && !answer.result.is_empty() {
                 answer.result[0] += 1;
+            }
+        }),
+        ("gives the first one's span for 51", |case, answer| {
+            if case.operation == Operation::Merge && answer.number == 51 {
+                (answer.start, answer.end) = (answer.end, answer.start);
             }
         }),
         ("counts on a refusal", |case, answer| {

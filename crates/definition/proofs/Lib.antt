@@ -15,6 +15,7 @@ pub mod Collected
 pub mod Counts
 pub mod Preview
 pub mod Library
+pub mod Merge
 pub mod Decimal
 mod Good
 pub mod Values
@@ -29,3 +30,5 @@ mod SaidSubstitute
 mod SaidExpand
 mod Borne
 mod Readings
+mod Join
+mod Widen

@@ -15,10 +15,8 @@ use lib.ListN.{length, replicate, getD}
 use Rattle.format.specs.Entry.{le, encode}
 use Rattle.format.specs.Ast.{MacroDef}
 use Rattle.format.specs.Flat.{flatDef}
-use Rattle.format.specs.Tape.{Reading, registryRoot, read, Bytes}
+use Rattle.format.specs.Tape.{Reading, registryRoot, read}
 use Rattle.format.proofs.All.{All, all-nil, all-cons, all-head}
-use Rattle.format.proofs.Exact.{lawful-registry}
-use Rattle.format.proofs.Rewritten.{rewrites-registry, read-no-or, read-on-tape}
 use Rattle.format.proofs.Registries.{Alone, definitions-alone}
 use Rattle.definition.specs.Outcome.{Refusal, Outcome, pure}
 use Rattle.definition.specs.Check.{Verdict, checkDef}
@@ -45,16 +43,10 @@ past-end [] i h = refl
 past-end (d ∷ ds) zero h = absurd (omega arith)
 past-end (d ∷ ds) (suc i) h = past-end ds i (omega arith)
 
-alone : (registry : List ℕ) (defs : List MacroDef) → Bytes registry → read registryRoot registry ≡ Reading.accepted defs → All Alone defs
-unfolding registryRoot
-alone registry defs q h =
-    definitions-alone _ defs (read-on-tape registryRoot rewrites-registry lawful-registry registry q defs h)
-    (read-no-or registryRoot rewrites-registry registry defs h)
-
 pub checked-alone : CheckedAlone
 unfolding checkAtAnswer checkAnswer reading unless checkFound
 checked-alone m registry defs b i d e =
-    let own = (found-at (alone registry defs (b .is-tape) (b .its-defs)) i d e) in
+    let own = (found-at (definitions-alone registry (b .is-tape) defs (b .its-defs)) i d e) in
     rw (b .its-defs, b .builds, e, own) refl
 
 pub checked-past-the-end : CheckedPastTheEnd
@@ -180,7 +172,7 @@ pub library-lists : LibraryLists
 unfolding answer refusedOf listBytes
 library-lists r m registry defs large long b =
     let e = its-answer r m registry defs large long b in
-    let a = alone registry defs (b .is-tape) (b .its-defs) in
+    let a = definitions-alone registry (b .is-tape) defs (b .its-defs) in
     let same : libraryAnswer r m registry .result ≡ padded r (listBytes (refusedOf defs)) = ap (λ (x : Answer). x .result) e in
     record {
       gives-0 = ap (λ (x : Answer). x .number) e;
@@ -222,7 +214,7 @@ pub empty-list-covers : EmptyListCovers
 unfolding expandAnswer expandTapes reading
 empty-list-covers registry defs q h l =
     let c = clean registry defs h l in
-    let a : All Alone defs = alone registry defs q h in
+    let a : All Alone defs = definitions-alone registry q defs h in
     record {
       substitutions = λ i d e b limit file input call k right.
           let own : Alone d = found-at a i d e in

@@ -15,6 +15,7 @@ pub mod Preview
 pub mod Demand3
 pub mod Residue
 pub mod Library
+pub mod Merge
 pub mod Names
 pub mod Lengthened
 pub mod Kept

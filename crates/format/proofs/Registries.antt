@@ -13,8 +13,8 @@ use Rattle.format.specs.Ast.{MacroBody, MacroDef}
 use Rattle.format.specs.Flat.{flatParams, flatBody, flatDef, flatDefs, flatRegistry}
 use Rattle.format.specs.Utf8.{follow, between, wellFormed, wellTexts}
 use Rattle.format.specs.Limits.{nodeWeight, callWeight, deepBody, deepBodies, fitsSizes, fitsDepths}
-use Rattle.format.specs.Macro.{isCode}
-use Rattle.format.specs.Tape.{Reading, longestText, shortTexts, fewParams, fewParamsEach, small, definitionRoot, registryRoot, read}
+use Rattle.format.specs.Macro.{isCode, holds}
+use Rattle.format.specs.Tape.{Reading, longestText, shortTexts, fewParams, fewParamsEach, small, definitionRoot, registryRoot, read, Bytes}
 use Rattle.format.proofs.All.{All, all-nil, all-cons, all-head, all-tail, all-append, all-left, all-right, all-map}
 use Rattle.format.proofs.Tests.{and-left, and-right, and-both}
 use Rattle.format.proofs.Accepted.{Values64, InRange, OnTape}
@@ -23,7 +23,7 @@ use Rattle.format.proofs.Stands.{text-append}
 use Rattle.format.proofs.Exact.{lawful-definition, lawful-registry}
 use Rattle.format.proofs.Utf8.{Whole, all-whole, whole-all}
 use Rattle.format.proofs.Becomes.{NoOr}
-use Rattle.format.proofs.Rewritten.{rewrites-definition, rewrites-registry, on-tape-read}
+use Rattle.format.proofs.Rewritten.{rewrites-definition, rewrites-registry, no-holds, on-tape-read, read-no-or, read-on-tape}
 
 -- ------------------------------------------------------------------ an entry of an input
 
@@ -137,13 +137,19 @@ fair-defs (d ∷ ds) h k l =
     all-cons (record { entries = all-left (flatDef d) _ h; depths = each .0; few = and-left (fewParams d) _ l })
     (fair-defs ds (all-right (flatDef d) h) (each .1) (and-right (fewParams d) _ l))
 
-pub fair-definitions : (bytes : List ℕ) (ds : List MacroDef) → OnTape registryRoot bytes ds → All NoOr (flatRegistry ds) → All FairDef ds
+fair-definitions : (bytes : List ℕ) (ds : List MacroDef) → OnTape registryRoot bytes ds → All NoOr (flatRegistry ds) → All FairDef ds
 unfolding registryRoot flatRegistry small
 fair-definitions bytes ds t o =
     let texts : Bool = shortTexts (flatRegistry ds) in
     let depths : Bool = fitsDepths (deepBodies nodeWeight ds) (deepBodies callWeight ds) in
     let rest = and-right texts _ (t .small) in
     fair-defs ds (all-tail (fair-entries (t .range) (and-left texts _ (t .small)) o)) (and-left depths _ rest) (and-right depths _ rest)
+
+pub fair-read : (bytes : List ℕ) → Bytes bytes → (ds : List MacroDef) → read registryRoot bytes ≡ Reading.accepted ds → All FairDef ds
+unfolding registryRoot
+fair-read bytes q ds h =
+    fair-definitions _ ds (read-on-tape registryRoot rewrites-registry lawful-registry bytes q ds h)
+    (read-no-or registryRoot rewrites-registry bytes ds h)
 
 alone-each : (ds : List MacroDef) → All FairDef ds → Fits (flatDefs ds) → All Alone ds
 unfolding flatDefs
@@ -152,10 +158,11 @@ alone-each (d ∷ ds) (all-cons f h) k =
     all-cons (definition-read d f (fits-left (flatDef d) (flatDefs ds) k)) (alone-each ds h (fits-right (flatDef d) (flatDefs ds) k))
 
 -- each definition of an accepted registry is accepted on a tape of its own
-pub definitions-alone : (bytes : List ℕ) (ds : List MacroDef) → OnTape registryRoot bytes ds → All NoOr (flatRegistry ds) → All Alone ds
+pub definitions-alone : (bytes : List ℕ) → Bytes bytes → (ds : List MacroDef) → read registryRoot bytes ≡ Reading.accepted ds → All Alone ds
 unfolding registryRoot flatRegistry
-definitions-alone bytes ds t o =
-    alone-each ds (fair-definitions bytes ds t o) (fits-right (_ ∷ []) (flatDefs ds) (t .range .sizes))
+definitions-alone bytes q ds h =
+    let t = read-on-tape registryRoot rewrites-registry lawful-registry bytes q ds h in
+    alone-each ds (fair-read bytes q ds h) (fits-right (_ ∷ []) (flatDefs ds) (t .range .sizes))
 
 -- ------------------------------------------------------------------ a registry of such definitions
 
@@ -198,6 +205,10 @@ fair-few : {ds : List MacroDef} → All FairDef ds → T (fewParamsEach ds)
 unfolding fewParamsEach
 fair-few all-nil = tt
 fair-few (all-cons {a = d} f h) = and-both (fewParams d) _ (f .few) (fair-few h)
+
+pub registry-no-or : {ds : List MacroDef} → All FairDef ds → holds 2 (flatRegistry ds) ≡ false
+unfolding flatRegistry
+registry-no-or h = no-holds (all-cons refl (fair-no-or (fair-flat h)))
 
 pub registry-read : (ds : List MacroDef) → All FairDef ds → Fits (flatRegistry ds) → read registryRoot (encode (flatRegistry ds)) ≡ Reading.accepted ds
 unfolding registryRoot flatRegistry small wellFormed follow between longestText isCode

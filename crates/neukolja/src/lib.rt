@@ -11,6 +11,7 @@ ghost use Rattle.definition.specs.Older.{olderAnswer};
 ghost use Rattle.definition.specs.Counts.{freshCounts, expandCounts};
 ghost use Rattle.definition.specs.Preview.{previewAnswer};
 ghost use Rattle.definition.specs.Library.{libraryAnswer, checkAtAnswer};
+ghost use Rattle.definition.specs.Merge.{mergeAnswer};
 ghost use Rattle.answer.specs.Matches.{buffers};
 ghost use Rattle.neukolja.specs.Words.{wordsOf, wordsWith, sevenOf, sevenWith};
 
@@ -153,4 +154,17 @@ pub extern "C" fn neukolja_older(tape: &[u8], result: &mut [u8], answer: &mut [u
     ensures { λ _. ⌜ wordsWith (now (answer .exit)) (now (result .exit)) [] [] ≡ olderAnswer (length (now (result .entry))) (now (tape .entry)) ⌝ }
 {
     write_words(older::older(tape, result), answer);
+}
+
+#[no_mangle]
+pub extern "C" fn neukolja_merge(
+    first: &[u8],
+    second: &[u8],
+    result: &mut [u8],
+    message: &mut [u8],
+    answer: &mut [u64; 5],
+)
+    ensures { λ _. ⌜ wordsWith (now (answer .exit)) (now (result .exit)) [] (now (message .exit)) ≡ mergeAnswer (length (now (result .entry))) (length (now (message .entry))) (now (first .entry)) (now (second .entry)) ⌝ }
+{
+    write_words(merge::merge(first, second, result, message), answer);
 }
