@@ -3,8 +3,8 @@
 
 use std::path::Path;
 
-const OPERATIONS: [&str; 9] =
-    ["check", "registry", "substitute", "expand", "preview", "check_library", "check_at", "merge", "older"];
+const OPERATIONS: [&str; 10] =
+    ["check", "registry", "substitute", "expand", "preview", "check_library", "check_at", "merge", "older", "profile"];
 
 fn main() {
     println!("cargo::rerun-if-changed=build.rs");

@@ -86,7 +86,11 @@ enum {
     NEUKOLJA_CALL_MET_IN_BODY = 48,
     NEUKOLJA_DEFINITIONS_DIFFER = 51,   /* merge alone: a name that both registries have is defined otherwise in
                                            the second */
-    NEUKOLJA_OUT_OF_RANGE = 52          /* the older tape alone: seven times an amount of weeks has no 64 bits */
+    NEUKOLJA_OUT_OF_RANGE = 52,         /* the older tape alone: seven times an amount of weeks has no 64 bits */
+    NEUKOLJA_AGGREGATE = 53,            /* the profile alone: an aggregate (30) */
+    NEUKOLJA_TOO_MANY_NODES = 54,       /* .. a seventeenth node */
+    NEUKOLJA_TOO_LONG_INTERVAL = 55     /* .. an interval outside 0 to one day; has the span of the nearest
+                                           condition around it */
 };
 
 /* The body check of one definition, a tape whose root is 60. Nothing is charged.
@@ -182,6 +186,13 @@ void neukolja_merge(const uint8_t *first, size_t first_length,
 void neukolja_older(const uint8_t *tape, size_t tape_length,
                     uint8_t *result, size_t result_length,
                     uint64_t answer[5]);
+
+/* The rules for the battery head, of a condition as expansion writes it: no aggregate (30), at most 16 nodes (codes 1 to 13 and 20 to
+ * 36), and only intervals from 0 to one day (86,400 s, 1,440 min, 24 h, 1 d, 0 weeks). The first broken rule in the order of the
+ * entries is answered, for one entry the lowest number. Variables and binders (27 and 43) may have 81 bytes here, as generated names
+ * do. It has no buffers and no message; nothing is charged. */
+void neukolja_profile(const uint8_t *condition, size_t condition_length,
+                      uint64_t answer[5]);
 
 #ifdef __cplusplus
 }

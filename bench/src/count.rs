@@ -2,7 +2,7 @@
 
 use differential::case::{Case, Operation};
 use differential::compare::{Lent, Machine};
-use differential::tape::{self, Sort};
+use differential::tape::{self, LARGEST_TEXT, Sort};
 use differential::upstream::{self, Reach};
 use dogwood::ast::MacroDef;
 use dogwood::extension::temporal::ast::Condition;
@@ -82,12 +82,12 @@ pub fn by_archive(case: &Case, machine: &mut dyn Machine) {
 }
 
 fn by_upstream(case: &Case) {
-    let registry = tape::accept(&case.tapes[0], Sort::Definitions).expect("accepted");
+    let registry = tape::accept(&case.tapes[0], Sort::Definitions, LARGEST_TEXT).expect("accepted");
     let defs = upstream::macro_defs(&registry);
     match case.operation {
         Operation::Registry => drop(black_box(upstream_registry(&defs))),
         Operation::Expand => {
-            let condition = tape::accept(&case.tapes[1], Sort::Condition).expect("accepted");
+            let condition = tape::accept(&case.tapes[1], Sort::Condition, LARGEST_TEXT).expect("accepted");
             let tree = upstream::condition(&condition);
             drop(black_box(upstream_expand(&defs, tree, Reach::limit(case.limit as usize))));
         }

@@ -10,7 +10,7 @@ use differential::archive;
 use differential::case::{Answer, Case, Operation};
 use differential::compare::{self, Lent, Machine};
 use differential::model::Notes;
-use differential::tape::{self, Sort};
+use differential::tape::{self, LARGEST_TEXT, Sort};
 use differential::upstream::{self, End, Reach};
 use dogwood::macros::adapter;
 use families::Member;
@@ -139,8 +139,8 @@ fn time(case: &Case, machine: &mut Option<Box<dyn Machine>>) -> [Option<f64>; 3]
 /// Upstream alone. Each expansion takes a tree of its own, which is made before the clock runs; what comes of it is
 /// freed after the clock stops.
 fn on_trees(case: &Case) -> Timed<'_> {
-    let registry = tape::accept(&case.tapes[0], Sort::Definitions).expect("accepted");
-    let condition = tape::accept(&case.tapes[1], Sort::Condition).expect("accepted");
+    let registry = tape::accept(&case.tapes[0], Sort::Definitions, LARGEST_TEXT).expect("accepted");
+    let condition = tape::accept(&case.tapes[1], Sort::Condition, LARGEST_TEXT).expect("accepted");
     let (defs, tree) = (upstream::macro_defs(&registry), upstream::condition(&condition));
     Box::new(move |n| {
         let inputs: Vec<_> = (0..n).map(|_| tree.clone()).collect();
@@ -160,8 +160,8 @@ fn on_tapes(case: &Case) -> Timed<'_> {
     Box::new(move |n| {
         let start = Instant::now();
         for _ in 0..n {
-            let registry = tape::accept(black_box(&case.tapes[0]), Sort::Definitions).expect("accepted");
-            let condition = tape::accept(black_box(&case.tapes[1]), Sort::Condition).expect("accepted");
+            let registry = tape::accept(black_box(&case.tapes[0]), Sort::Definitions, LARGEST_TEXT).expect("accepted");
+            let condition = tape::accept(black_box(&case.tapes[1]), Sort::Condition, LARGEST_TEXT).expect("accepted");
             let run = upstream::expand(&registry, &condition, Reach::limit(case.limit as usize));
             let End::Tree(tree) = run.end else { unreachable!("it succeeds") };
             black_box(tape::encode(&tree));

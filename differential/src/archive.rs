@@ -65,6 +65,8 @@ mod functions {
         fn neukolja_older(
             tape: *const u8, tape_len: usize, result: *mut u8, result_len: usize, answer: *mut [u64; 5],
         );
+        #[cfg(archive_has = "profile")]
+        fn neukolja_profile(condition: *const u8, condition_len: usize, answer: *mut [u64; 5]);
     }
 
     pub struct Archive;
@@ -81,6 +83,7 @@ mod functions {
                 Operation::CheckAt => cfg!(archive_has = "check_at"),
                 Operation::Merge => cfg!(archive_has = "merge"),
                 Operation::Older => cfg!(archive_has = "older"),
+                Operation::Profile => cfg!(archive_has = "profile"),
             }
         }
 
@@ -132,6 +135,8 @@ mod functions {
                     ),
                     #[cfg(archive_has = "older")]
                     Operation::Older => neukolja_older(a.as_ptr(), a.len(), r.as_mut_ptr(), r.len(), answer),
+                    #[cfg(archive_has = "profile")]
+                    Operation::Profile => neukolja_profile(a.as_ptr(), a.len(), answer),
                     #[allow(unreachable_patterns)]
                     _ => unreachable!("the archive has no {}", case.operation.name()),
                 }

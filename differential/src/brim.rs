@@ -143,8 +143,8 @@ pub fn missing(random: &mut Random, figure: Figure, now: &Measure) -> Option<usi
     target.checked_sub(figure.of(now))
 }
 
-/// One text of the tree gets a length around a limit.
-pub fn stretch_a_text(random: &mut Random, tree: &mut Node) {
+/// One text of the tree gets a length around a limit; `longest_name` is that of a name.
+pub fn stretch_a_text(random: &mut Random, tree: &mut Node, longest_name: usize) {
     let literal = |code: u8| matches!(code, 22 | 23);
     let any = |code: u8| tape::value(code) == tape::Value::TextLength;
     let count = |wanted: fn(u8) -> bool| {
@@ -158,7 +158,7 @@ pub fn stretch_a_text(random: &mut Random, tree: &mut Node) {
         (literals, _) if literals > 0 && random.chance(40) => (literals, literal as fn(u8) -> bool),
         (_, texts) => (texts, any as fn(u8) -> bool),
     };
-    let length = *random.pick(&[0, 63, 64, 65, 75, 254, 255, 256]);
+    let length = *random.pick(&[0, 63, 64, 65, 75, longest_name, longest_name + 1, 254, 255, 256]);
     let text = match random.weighted(&[40, 30, 30]) {
         0 => texts::of_length(random, length),
         cut => texts::ending_wide(random, length.max(4), cut == 2),

@@ -1,6 +1,6 @@
 //! An input of one of the operations, and an answer.
 
-use crate::tape::Sort;
+use crate::tape::{LARGEST_TEXT, Sort};
 
 #[derive(Clone, Copy, Debug, PartialEq, Eq, PartialOrd, Ord)]
 pub enum Operation {
@@ -13,9 +13,10 @@ pub enum Operation {
     CheckAt,
     Merge,
     Older,
+    Profile,
 }
 
-pub const OPERATIONS: [Operation; 9] = [
+pub const OPERATIONS: [Operation; 10] = [
     Operation::Check,
     Operation::Registry,
     Operation::Substitute,
@@ -25,6 +26,7 @@ pub const OPERATIONS: [Operation; 9] = [
     Operation::CheckAt,
     Operation::Merge,
     Operation::Older,
+    Operation::Profile,
 ];
 
 impl Operation {
@@ -39,6 +41,7 @@ impl Operation {
             Operation::CheckAt => "check_at",
             Operation::Merge => "merge",
             Operation::Older => "older",
+            Operation::Profile => "profile",
         }
     }
 
@@ -54,6 +57,7 @@ impl Operation {
             Operation::CheckAt => 7,
             Operation::Merge => 9,
             Operation::Older => 10,
+            Operation::Profile => 11,
         }
     }
 
@@ -66,6 +70,15 @@ impl Operation {
             Operation::Expand | Operation::Preview => &[Sort::Definitions, Sort::Condition],
             Operation::Merge => &[Sort::Definitions, Sort::Definitions],
             Operation::Older => &[Sort::Any],
+            Operation::Profile => &[Sort::Condition],
+        }
+    }
+
+    /// The longest name, a text of 27 or 43, that its tapes may have.
+    pub fn longest_name(self) -> usize {
+        match self {
+            Operation::Profile => 81,
+            _ => LARGEST_TEXT,
         }
     }
 
@@ -77,6 +90,7 @@ impl Operation {
             Operation::Substitute | Operation::Expand => [LEAST_RESULT, LEAST_WORK, LEAST_MESSAGE],
             Operation::Preview => [0, LEAST_WORK, LEAST_MESSAGE],
             Operation::Older => [LEAST_RESULT, 0, 0],
+            Operation::Profile => [0; 3],
         }
     }
 

@@ -2,7 +2,8 @@
 
 use crate::case::{Answer, COUNTS, Case, Counts, Operation, Words};
 use crate::model::{self, Notes, TooLarge};
-use crate::tape::{self, LARGEST, Node, Sort};
+use crate::profile;
+use crate::tape::{self, LARGEST, LARGEST_TEXT, Node, Sort};
 use crate::upstream::{self, End, Reach, Run};
 use std::collections::BTreeSet;
 
@@ -30,7 +31,7 @@ pub const WITNESSES: [(Witness, &str); 6] = [
     (Witness::UpstreamMadeIt, "3 of a whole result, which upstream made"),
     (Witness::UpstreamHalted, "3 of a call, where upstream was halted"),
     (Witness::UpstreamSubstituted, "3 of a call's outcome, which upstream made"),
-    (Witness::ModelAlone, "1, 2 or 3 of a tape, a merge, or the older tape: decided by the model alone"),
+    (Witness::ModelAlone, "1, 2 or 3 of a tape, a merge, the older tape, the profile: decided by the model alone"),
 ];
 
 /// The answer that a case must have: the model's, after upstream was heard.
@@ -61,6 +62,10 @@ fn hear_upstream(case: &Case, answer: &Answer, notes: &Notes) -> Result<Witness,
     }
     if case.operation == Operation::Older {
         return older_is_read(&notes.trees[0], notes.result.as_ref()).map(|()| Witness::ModelAlone);
+    }
+    if case.operation == Operation::Profile {
+        same("what the number says", &profile::is_so(answer.number, &notes.trees[0]), &true)?;
+        return stays_as_it_is(&case.tapes[0], &notes.trees[0], answer.number).map(|()| Witness::ModelAlone);
     }
     let [given, trees] =
         [&notes.given, &notes.trees].map(|trees| trees.iter().map(tape::weeks_as_days).collect::<Vec<_>>());
@@ -118,6 +123,21 @@ fn run(case: &Case, trees: &[Node], reach: Reach) -> Run {
     }
 }
 
+/// A condition that passes the profile check, with no call, sigil or refinement and no long name, is expanded to itself.
+fn stays_as_it_is(tape: &[u8], condition: &Node, number: u64) -> Result<(), String> {
+    let mut plain = tape::accept(tape, Sort::Condition, LARGEST_TEXT).is_ok();
+    condition.visit(&mut |node| plain &= !matches!(node.code, 11 | 12 | 13 | 32 | 33 | 36 | 44 | 45 | 52));
+    if number != 0 || !plain {
+        return Ok(());
+    }
+    let none = Node::counted(41, 1, vec![]);
+    let shown = tape::weeks_as_days(condition);
+    same("the condition expanded", &upstream::expand(&none, &shown, Reach::limit(0)).end, &End::Tree(shown))?;
+    let case = Case { file: 7, ..Case::new(Operation::Expand, 0, vec![tape::encode(&none), tape.to_vec()]) };
+    let (answer, _) = model::answer(&case);
+    same("the model's expansion", &(answer.number, answer.result), &(0, tape::encode(condition)))
+}
+
 /// Upstream says 10 and 11 of both registries, takes the merged one as a registry, and expands calls of the first one's
 /// definitions with both to the same.
 fn hear_of_merge(trees: &[Node], answer: &Answer, notes: &Notes) -> Result<Witness, String> {
@@ -146,7 +166,7 @@ fn hear_of_merge(trees: &[Node], answer: &Answer, notes: &Notes) -> Result<Witne
 /// A head without weeks reads the older tape, with intervals of equal length and nothing else changed.
 fn older_is_read(tree: &Node, older: Option<&Node>) -> Result<(), String> {
     let Some(older) = older else { return Ok(()) };
-    let read = tape::accept(&tape::encode(older), Sort::Any);
+    let read = tape::accept(&tape::encode(older), Sort::Any, LARGEST_TEXT);
     same("the older tape read again", &read, &Ok(older.clone()))?;
     same("the older tape without weeks", &tape::weeks_as_days(older), older)?;
     let [mut before, mut after] = [Vec::new(), Vec::new()];

@@ -5,6 +5,7 @@ use crate::case::{Case, Counts, OPERATIONS, Operation};
 use crate::damage::damage;
 use crate::merge;
 use crate::model::{self, Walk};
+use crate::profile;
 use crate::random::Random;
 use crate::tape::{self, LARGEST_CALLS, LARGEST_PARAMETERS, LARGEST_TEXT, Node, UNBOUNDED};
 use crate::texts;
@@ -12,7 +13,7 @@ use crate::trees::{DEPTH, Ground, MOST_DEFINITIONS, Macro, Style, Trees};
 
 /// The operation of a case is drawn first.
 fn draw(random: &mut Random) -> Operation {
-    OPERATIONS[random.weighted(&[12, 6, 26, 31, 5, 4, 4, 7, 5])]
+    OPERATIONS[random.weighted(&[11, 6, 25, 30, 5, 4, 3, 7, 4, 5])]
 }
 
 pub fn operation(seed: u64, index: u64) -> Operation {
@@ -61,6 +62,7 @@ fn style(random: &mut Random) -> Style {
         calls: random.weighted(&[0, 20, 40, 30, 8, 2]),
         weeks: *random.pick(&[0, 0, 0, 20, 80]),
         wild: *random.pick(&[0, 0, 0, 10]),
+        day: false,
     }
 }
 
@@ -107,6 +109,10 @@ fn input(random: &mut Random, operation: Operation) -> Input {
             g.style.weeks = *g.random.pick(&[0, 20, 60, 60]);
             g.style.wild = *g.random.pick(&[0, 0, 10, 50]);
             Input { first: any_root(g), second: None }
+        }
+        Operation::Profile => {
+            g.style.day = true;
+            Input { first: profile::condition(g, DEPTH), second: None }
         }
     }
 }
@@ -179,7 +185,7 @@ fn at_a_limit(random: &mut Random, operation: Operation) -> Input {
     let tree = if first { &mut input.first } else { input.second.as_mut().expect("there is one") };
     match random.weighted(&[50, 20, 10, 20]) {
         0 => grow_a_tape(random, tree),
-        1 => brim::stretch_a_text(random, tree),
+        1 => brim::stretch_a_text(random, tree, operation.longest_name()),
         2 => many_parameters(random, &mut input),
         _ => many_calls(random, &mut input, operation),
     }
@@ -276,6 +282,7 @@ fn many_calls(random: &mut Random, input: &mut Input, operation: Operation) {
     match operation {
         Operation::Substitute => input.second = Some(calls),
         Operation::Expand | Operation::Preview => input.second = Some(condition),
+        Operation::Profile => input.first = condition,
         Operation::Older => input.first = if random.chance(50) { calls } else { condition },
         // A body with calls is accepted, and refused by its check.
         Operation::Check => input.first.children[2] = Node::new(62, 0, vec![condition]),
@@ -293,9 +300,10 @@ fn many_calls(random: &mut Random, input: &mut Input, operation: Operation) {
 fn result_at_a_limit(random: &mut Random, operation: Operation, file: u16) -> Input {
     let figure = *random.pick(&FIGURES);
     match operation {
-        Operation::Check | Operation::Registry | Operation::CheckLibrary | Operation::CheckAt | Operation::Older => {
+        Operation::Check | Operation::Registry | Operation::CheckLibrary | Operation::CheckAt => {
             at_a_limit(random, operation)
         }
+        Operation::Older | Operation::Profile => at_a_limit(random, operation),
         Operation::Merge => merge_at_a_limit(random, figure),
         Operation::Substitute => {
             let mut input = multiplying(random, figure);
@@ -346,7 +354,7 @@ fn shared(registry: &Node, definition: &Node) -> bool {
 /// A definition that pastes its argument several times, and a call with a large argument.
 fn multiplying(random: &mut Random, figure: Figure) -> Input {
     let g = &mut Trees {
-        style: Style { stray: 0, plain: 20, wrong: 0, calls: 3, weeks: 10, wild: 10 },
+        style: Style { stray: 0, plain: 20, wrong: 0, calls: 3, weeks: 10, wild: 10, day: false },
         parameters: vec![],
         macros: vec![],
         fuel: 10,
@@ -527,6 +535,9 @@ fn spoil(random: &mut Random, case: &mut Case) {
 /// Now and then longer buffers, or one that is too short.
 fn vary_buffers(random: &mut Random, case: &mut Case) {
     let there: Vec<usize> = (0..3).filter(|i| case.sizes[*i] > 0).collect();
+    if there.is_empty() {
+        return;
+    }
     match random.weighted(&[88, 8, 4]) {
         1 => there.iter().for_each(|i| case.sizes[*i] += random.size(2000)),
         2 => {

@@ -11,6 +11,7 @@ pub mod merge;
 pub mod message;
 pub mod model;
 pub mod places;
+pub mod profile;
 pub mod random;
 pub mod record;
 pub mod tally;

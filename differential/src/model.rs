@@ -6,6 +6,7 @@
 use crate::case::{Answer, COUNTS, Case, Operation, Words};
 use crate::merge;
 use crate::message;
+use crate::profile::profile;
 use crate::tape::{self, LARGEST, LARGEST_CALLS, Largest, Measure, Node, Over, Sort, UNBOUNDED, Unread};
 use std::collections::BTreeSet;
 
@@ -156,7 +157,8 @@ fn operate(case: &Case, walk: &mut Walk, notes: &mut Notes) -> Result<Made, Refu
     }
     let (mut given, mut trees) = (Vec::new(), Vec::new());
     for (bytes, root) in case.tapes.iter().zip(case.operation.roots()) {
-        let (as_given, rewritten) = read(bytes, *root).map_err(|unread| refusal_of(unread, notes))?;
+        let longest_name = case.operation.longest_name();
+        let (as_given, rewritten) = read(bytes, *root, longest_name).map_err(|unread| refusal_of(unread, notes))?;
         given.push(as_given);
         trees.push(rewritten);
     }
@@ -187,13 +189,14 @@ fn operate(case: &Case, walk: &mut Walk, notes: &mut Notes) -> Result<Made, Refu
             Some(older) => Ok(Made::Tree(older)),
             None => refuse(52, 0, String::new()),
         },
+        (Operation::Profile, [condition]) => profile(condition).map(|()| Made::Nothing),
         _ => unreachable!("a case has as many tapes as its operation has roots"),
     }
 }
 
 /// The tree of a tape as it stands there, and without Or.
-pub fn read(bytes: &[u8], root: Sort) -> Result<(Node, Node), Unread> {
-    let given = tape::accept(bytes, root)?;
+pub fn read(bytes: &[u8], root: Sort, longest_name: usize) -> Result<(Node, Node), Unread> {
+    let given = tape::accept(bytes, root, longest_name)?;
     let rewritten = tape::withdrawn(&given);
     match tape::over_rewritten(&rewritten) {
         Some(over) => Err(Unread::TooLarge(over)),

@@ -82,6 +82,16 @@ enum Shows {
     Merged(&'static str, bool),
     /// What each of two registries is by its names: 0, 10 or 11.
     NamesOfBoth(u64, u64),
+    /// An interval of a condition that passes the profile check or does not: its code, and how long it is.
+    Interval(u8, &'static str, u64),
+    /// The code that an interval stands behind, in such a condition.
+    IntervalBehind(u8, u64),
+    /// So many nodes in a condition that the profile check was given.
+    Nodes(u64, u64),
+    /// The first aggregate is such a node of it.
+    Aggregate(u64, u64),
+    /// A name of so many bytes on an accepted tape.
+    Name(usize),
     /// Something about the counts.
     Counts(&'static str),
     /// Exactly the limit was charged.
@@ -264,6 +274,11 @@ fn shows(case: &Case, answer: &Answer, notes: &Notes) -> Vec<Shows> {
         };
         all.push(Shows::Asked(place, answer.number));
     }
+    if case.operation == Operation::Profile
+        && let [condition] = &notes.trees[..]
+    {
+        all.extend(of_profile(condition, answer.number));
+    }
     if case.operation.has_counts() {
         all.extend(of_counts(case, answer, notes).into_iter().map(Shows::Counts));
     }
@@ -294,10 +309,12 @@ fn of_refusals(case: &Case, answer: &Answer, notes: &Notes) -> Vec<Shows> {
         }
         all.push(Shows::Reason(number, reason));
     }
-    let read = |(bytes, root): (&Vec<u8>, &Sort)| model::read(bytes, *root).map_or_else(number_of, |_| 0);
+    let read = |(bytes, root): (&Vec<u8>, &Sort)| {
+        model::read(bytes, *root, case.operation.longest_name()).map_or_else(number_of, |_| 0)
+    };
     let tapes: Vec<u64> = case.tapes.iter().zip(case.operation.roots()).map(read).collect();
     if matches!(case.operation, Operation::Expand | Operation::Preview)
-        && let Ok(definitions) = tape::accept(&case.tapes[0], Sort::Definitions)
+        && let Ok(definitions) = tape::accept(&case.tapes[0], Sort::Definitions, LARGEST_TEXT)
     {
         let names = model::registry(&definitions).map_or_else(|refusal| refusal.number, |()| 0);
         all.push(Shows::Names { names, condition: tapes[1] });
@@ -339,10 +356,47 @@ fn at_limits(tree: &Node) -> Vec<&'static str> {
         23 if node.text.len() == LARGEST_LITERAL => all.push("string"),
         60 if node.children[1].value == LARGEST_PARAMETERS as u64 => all.push("parameters"),
         22 | 23 => {}
-        _ if node.text.len() == LARGEST_TEXT => all.push("name"),
+        27 | 43 if node.text.len() == LARGEST_TEXT => all.push("name"),
+        _ if node.text.len() == LARGEST_TEXT => all.push("text of an entry"),
         _ => {}
     });
     all
+}
+
+fn of_profile(condition: &Node, number: u64) -> Vec<Shows> {
+    let mut all = vec![Shows::Nodes(tape::size(condition).clamp(14, 19), number)];
+    let (mut nodes, mut aggregate) = (0, None);
+    condition.visit(&mut |node| {
+        nodes += u64::from(tape::is_node(node.code));
+        if node.code == 30 && aggregate.is_none() {
+            aggregate = Some(nodes);
+        }
+        if matches!(node.code, 27 | 43) && node.text.len() > LARGEST_TEXT {
+            all.push(Shows::Name(node.text.len()));
+        }
+        let intervals = node.children.iter().filter(|child| tape::seconds(child).is_some());
+        all.extend(intervals.map(|_| Shows::IntervalBehind(node.code, number)));
+        all.extend(length(node).map(|length| Shows::Interval(node.code, length, number)));
+    });
+    all.extend(aggregate.map(|place| Shows::Aggregate(place.clamp(15, 19), number)));
+    all
+}
+
+/// How long an interval is.
+fn length(interval: &Node) -> Option<&'static str> {
+    const ONE_DAY: i128 = 86_400;
+    let (seconds, amount) = (tape::seconds(interval)?, interval.value as i64);
+    Some(match seconds {
+        _ if amount == i64::MIN => "the least",
+        _ if amount == i64::MAX => "the largest",
+        0 => "0",
+        ONE_DAY => "one day",
+        ..0 if amount == -1 => "-1",
+        ..0 => "negative",
+        1..ONE_DAY => "less than a day",
+        _ if seconds / i128::from(amount) * i128::from(amount - 1) <= ONE_DAY => "one more than a day",
+        _ => "more than a day",
+    })
 }
 
 fn kept_once(first: &Node, second: &Node) -> &'static str {

@@ -17,6 +17,7 @@ pub fn possible(operation: Operation) -> Vec<u64> {
         Operation::Expand | Operation::Preview => [vec![0, 1, 2, 3, 10, 11], (30..=48).collect()].concat(),
         Operation::Merge => vec![0, 1, 2, 3, 10, 11, 51],
         Operation::Older => vec![0, 1, 2, 3, 52],
+        Operation::Profile => vec![0, 2, 3, 53, 54, 55],
     }
 }
 

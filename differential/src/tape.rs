@@ -274,8 +274,8 @@ pub enum Unread {
 }
 
 /// The tree on a slice, or why it is none. The order is document 01's: a slice under 8 bytes, N or T over, any other
-/// malformation, any other figure over.
-pub fn accept(bytes: &[u8], root: Sort) -> Result<Node, Unread> {
+/// malformation, any other figure over. `longest_name` is for the texts of 27 and 43.
+pub fn accept(bytes: &[u8], root: Sort, longest_name: usize) -> Result<Node, Unread> {
     if bytes.len() < 8 {
         return Err(Unread::Malformed("under 8 bytes"));
     }
@@ -292,7 +292,7 @@ pub fn accept(bytes: &[u8], root: Sort) -> Result<Node, Unread> {
     let (values, text) = rest.split_at(8 * entries);
     let mut reader = Reader { codes, values, text };
     let tree = reader.read(root).map_err(Unread::Malformed)?;
-    match (reader.codes.is_empty() && reader.text.is_empty(), over(&tree)) {
+    match (reader.codes.is_empty() && reader.text.is_empty(), over(&tree, longest_name)) {
         (false, Some(_)) => Err(Unread::Malformed("something left over, and too large")),
         (false, None) if reader.codes.is_empty() => Err(Unread::Malformed("text left over")),
         (false, None) => Err(Unread::Malformed("entries left over")),
@@ -466,7 +466,7 @@ pub fn over_rewritten(rewritten: &Node) -> Option<Over> {
 }
 
 /// The figure other than N and T that a tree that was read is over.
-fn over(tree: &Node) -> Option<Over> {
+fn over(tree: &Node, longest_name: usize) -> Option<Over> {
     let m = measure(tree);
     let mut found = exceeds("nesting", m.nesting, LARGEST.nesting).or(exceeds("calls", m.calls, LARGEST_CALLS));
     tree.visit(&mut |node| {
@@ -474,7 +474,8 @@ fn over(tree: &Node) -> Option<Over> {
         found = found.or(match node.code {
             22 | 23 => exceeds("literal", length, LARGEST_LITERAL),
             60 => exceeds("parameters", node.children[1].value as usize, LARGEST_PARAMETERS),
-            _ => exceeds("name", length, LARGEST_TEXT),
+            27 | 43 => exceeds("name", length, longest_name),
+            _ => exceeds("text of an entry", length, LARGEST_TEXT),
         });
     });
     found

@@ -1,5 +1,6 @@
 //! Random well-formed trees.
 
+use crate::profile;
 use crate::random::Random;
 use crate::tape::{self, LARGEST, Node};
 use crate::texts;
@@ -50,6 +51,8 @@ pub struct Style {
     pub weeks: usize,
     /// Numbers of weeks that are too large for days.
     pub wild: usize,
+    /// Intervals around 0 and one day, instead of any.
+    pub day: bool,
 }
 
 pub struct Trees<'a> {
@@ -155,6 +158,9 @@ impl Trees<'_> {
     }
 
     pub fn interval(&mut self) -> Node {
+        if self.style.day {
+            return profile::interval(self.random);
+        }
         if self.random.chance(self.style.weeks) {
             return Node::new(64, self.weeks() as u64, vec![]);
         }

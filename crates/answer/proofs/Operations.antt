@@ -20,11 +20,11 @@ use Rattle.format.proofs.Tests.{and-left, and-right, from-true}
 use Rattle.definition.specs.Outcome.{Outcome}
 use Rattle.definition.specs.Check.{Verdict}
 use Rattle.definition.specs.Answers.{Answer, Buffers, answer, numberAlone, reading, longBuffers, treeAnswer, verdict, messageAlone, messageAnswer}
-use Rattle.tape.specs.Accept.{acceptOf}
+use Rattle.tape.specs.Accept.{acceptNamed, acceptOf}
 use Rattle.tape.specs.declared.header.Opened.{Opened}
 use Rattle.tape.specs.declared.header.Opened.the-variants as opened
 use Rattle.tape.specs.declared.layout.Layout.{Layout}
-use Rattle.tape.proofs.Acceptance.{RootOf, Answers, answers-2, answers-3, answers-tape, answers}
+use Rattle.tape.proofs.Acceptance.{RootOf, RootNamed, Answers, answers-2, answers-3, answers-tape, answers}
 use Rattle.walk_state.specs.declared.writing.Walk.{Walk}
 use Rattle.answer.specs.Matches.{ended, messageIn, VerdictMatches, AnswersVerdict, OutcomeMatches, AnswersOutcome}
 use Rattle.answer.specs.Tapes.{afterFirst, onFirst, acceptTwo}
@@ -35,8 +35,8 @@ use Rattle.answer.specs.declared.tapes.Accepted.the-variants.{Both, Refu
 -- ------------------------------------------------------------------ tapes
 
 -- a tape that is refused
-pub refused-tape : {A B : Type 0} (root : Root A) {sort n : ℕ} → RootOf root sort → (s : List ℕ) (k : A → Outcome B)
-    → acceptOf s sort ≡ opened.Refused n → reading (accept (weighted root) s) k ≡ numberAlone n
+pub refused-tape : {A B : Type 0} (root : Root A) {longest sort n : ℕ} → RootNamed longest root sort → (s : List ℕ) (k : A → Outcome B)
+    → acceptNamed longest s sort ≡ opened.Refused n → reading (accept (weighted root) s) k ≡ numberAlone n
 unfolding reading
 refused-tape {A} root {n = n} r s k e = go (answers r s) e
   where

@@ -1,7 +1,6 @@
 -- The theorem first, then the laws that several proofs of the crate cite.
 pub mod Returned
 mod Lower
-mod Short
 mod Steps
 mod AsGiven
 mod Standing

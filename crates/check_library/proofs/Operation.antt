@@ -16,6 +16,7 @@ use Rattle.format.proofs.Rewritten.{rewrites-registry}
 use Rattle.definition.specs.Outcome.{refusal, Outcome}
 use Rattle.definition.specs.Answers.{Answer, answer, numberAlone, reading, messageAlone, withoutWork, resultAnswer}
 use Rattle.definition.specs.Library.{Refused as Listed, listBytes, libraryTapes, libraryAnswer, checkAtAnswer}
+use Rattle.definition.proofs.KeptLater.{library-bounded, check-at-bounded}
 use Rattle.tape.specs.Accept.{acceptOf}
 use Rattle.tape.specs.declared.header.Opened.the-variants as opened
 use Rattle.tape.specs.declared.layout.Layout.{Layout}
@@ -31,7 +32,6 @@ use Rattle.answer.proofs.Operations.{refused-tape, ends-short, ends-refused, me
 use Rattle.registry.proofs.Standing.{indexed-registry}
 use Rattle.check_library.specs.Rows.{checkedIn, Listing, listing, listedIn, ListMatches, AnswersList}
 use Rattle.check_library.proofs.Lower.{without-work, ends-matched}
-use Rattle.check_library.proofs.Short.{library-short, check-at-short}
 use Rattle.check_library.proofs.AsGiven.{libraryOf, library-as-given, checkOf, check-at-as-given}
 use Rattle.check_library.proofs.Standing.{checked-matches, list-matches}
 
@@ -102,7 +102,7 @@ library-listed list m s {l = l} bytes h k e x =
     let given = library-as-given (length list) m s bytes in
     let o : reading (accept (weighted registryRoot) s) libraryOf ≡ libraryOf (found .0) = rw (found .1 .reading) in
     ends-matched listBytes (withoutWork (length list) m) (reading (accept (weighted registryRoot) s) libraryOf) (both-long (length list) m h k) k
-    (subst (λ (z : Answer). z .messageLength ≤ 2048) given (library-short (length list) m s bytes))
+    (subst (λ (z : Answer). z .messageLength ≤ 2048) given (library-bounded (length list) m s bytes .short-message))
     (λ n. rw o (x (libraryOf (found .0)) (list-matches indexed (given-64 rewrites-registry (found .1)) list (omega arith)) (rw o at n)))
     ∙ sym given
 
@@ -121,6 +121,6 @@ module _ (m : ℕ) (s : List ℕ) (i : ℕ) (bytes : Bytes s) (long : 2048 ≤ m
       let indexed = indexed-registry (found .0) (accepted-alone registry-root rewrites-registry (found .1)) in
       let given = check-at-as-given m s i bytes in
       message-verdict registryRoot registry-root (checkOf i) m s l v long (found .1 .reading)
-      (subst (λ (z : Answer). z .messageLength ≤ 2048) given (check-at-short m s i bytes))
+      (subst (λ (z : Answer). z .messageLength ≤ 2048) given (check-at-bounded m s i bytes .short-message))
       (rw w (checked-matches i indexed (given-64 rewrites-registry (found .1)))) x
       ∙ sym given

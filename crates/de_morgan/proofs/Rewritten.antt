@@ -28,7 +28,7 @@ use Rattle.format.proofs.Tests.{and-right, is-true}
 use Rattle.tape.specs.Layouts.{holds, tapeLayout}
 use Rattle.tape.specs.Pick.{pick}
 use Rattle.tape.specs.declared.layout.Layout.{Layout}
-use Rattle.tape.proofs.Acceptance.{RootOf}
+use Rattle.tape.proofs.Acceptance.{RootNamed}
 use Rattle.tape.proofs.Holding.{holding}
 use Rattle.tape.proofs.Located.{Inside, Alone, accepted-inside, accepted-alone}
 use Rattle.tape.proofs.Roots.{Accepted}
@@ -179,7 +179,7 @@ module _ {s : List ℕ} {l : Layout} {es : List Entry} (i : Inside s l (place 0 
 
 -- The tape of the rewritten tree, in a buffer as long as the longest tape: for `b` see the head of this file. Acceptance has decided that
 -- it has no more than 1,024 entries.
-pub accepted-rewritten : {A : Type 0} {root : Root A} {sort : ℕ} {s : List ℕ} {l : Layout} {a : A} {fs : List Entry} → RootOf root sort
+pub accepted-rewritten : {A : Type 0} {root : Root A} {longest sort : ℕ} {s : List ℕ} {l : Layout} {a : A} {fs : List Entry} → RootNamed longest root sort
     → Accepted root s l a → Becomes (root .flat a) fs → (out : List ℕ) → 12296 ≤ length out → RewrittenTape s l fs out
 unfolding fitsSizes
 accepted-rewritten {root = root} {a = a} {fs = fs} r h b out long =
@@ -190,7 +190,7 @@ accepted-rewritten {root = root} {a = a} {fs = fs} r h b out long =
     (omega (arith, length-encode fs, more-entries b, same, h .entries-fit))
 
 -- The rewritten tree, alone in the layout that is answered.
-pub rewritten-alone : {A : Type 0} {root : Root A} {sort : ℕ} {s : List ℕ} {l : Layout} {a : A} → RootOf root sort → Rewrites root
+pub rewritten-alone : {A : Type 0} {root : Root A} {longest sort : ℕ} {s : List ℕ} {l : Layout} {a : A} → RootNamed longest root sort → Rewrites root
     → Accepted root s l a → (out : List ℕ) → 12296 ≤ length out → Alone root (rewrittenIn s l out) (rewrittenLayout s l) (rewritten root a)
 rewritten-alone {root = root} {a = a} r w h out long =
     let tape = accepted-rewritten r h (w .becomes a) out long in
@@ -203,12 +203,12 @@ rewritten-alone {root = root} {a = a} r w h out long =
     }
 
 -- the Ors that are counted on it
-pub accepted-ors : {A : Type 0} {root : Root A} {sort : ℕ} {s : List ℕ} {l : Layout} {a : A} → RootOf root sort → Accepted root s l a
+pub accepted-ors : {A : Type 0} {root : Root A} {longest sort : ℕ} {s : List ℕ} {l : Layout} {a : A} → RootNamed longest root sort → Accepted root s l a
     → orsIn s l ≡ tally 2 (root .flat a)
 accepted-ors r h = ors-in (accepted-inside r h) (ap (λ (k : Layout). k .entries) (h .layout-is))
 
 -- without one, the tape as it was given is that of the rewritten tree
-pub given-alone : {A : Type 0} {root : Root A} {sort : ℕ} {s : List ℕ} {l : Layout} {a : A} → RootOf root sort → Rewrites root
+pub given-alone : {A : Type 0} {root : Root A} {longest sort : ℕ} {s : List ℕ} {l : Layout} {a : A} → RootNamed longest root sort → Rewrites root
     → Accepted root s l a → orsIn s l ≡ 0 → Alone root s l (rewritten root a)
 given-alone {root = root} {s = s} {l = l} {a = a} r w h none =
     let same = rewriting root w .unchanged a (tally-none 2 (root .flat a) (sym (accepted-ors r h) ∙ none)) in

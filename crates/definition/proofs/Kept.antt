@@ -13,7 +13,7 @@ use Rattle.format.specs.Ast.{Condition, Call, Tree, MacroParam, MacroDef}
 use Rattle.format.specs.Flat.{flatCondition, flatCall, flatTree, flatParams, flatDef, flatDefs, flatRegistry}
 use Rattle.format.specs.Limits.{nodeWeight, callWeight, deepTree, deepBody, fitsSizes, fitsDepths, fitsAll, tooLargeTree}
 use Rattle.format.specs.Macro.{isCode}
-use Rattle.format.specs.Tape.{Reading, longestText, shortTexts, fewParams, small, conditionRoot, definitionRoot, callRoot, registryRoot, read}
+use Rattle.format.specs.Tape.{Reading, longestText, textsWithin, shortTexts, fewParams, small, conditionRoot, definitionRoot, callRoot, registryRoot, read}
 use Rattle.format.proofs.All.{All, all-nil, all-cons, all-head, all-tail, all-left, all-right, all-both, all-map}
 use Rattle.format.proofs.Accepted.{Values64, OnTape}
 use Rattle.format.proofs.Tests.{and-left, and-right, not-refused}
@@ -35,14 +35,14 @@ use Rattle.definition.proofs.SaidExpand.{said-expand}
 
 -- ------------------------------------------------------------------ the rules: names of at most 255 bytes, values below 2^64
 
-abbrev Sized : Entry → Type 0
+abbrev pub Sized : Entry → Type 0
 Sized e = Known Name Unasked Number e
 
-abbrev SizedDef : MacroDef → Type 0
+abbrev pub SizedDef : MacroDef → Type 0
 SizedDef d = All Sized (flatDef d)
 
 -- no message
-no-message : Short []
+pub no-message : Short []
 no-message = lit≤ tt
 
 short-rules : (limit file : ℕ) → limit < 2 ^ 32 → Rules Name Unasked Short Number (λ n. n ≤ limit) limit file
@@ -75,23 +75,26 @@ short-rules limit file small =
 -- ------------------------------------------------------------------ what an input's tape keeps to
 
 abbrev ShortText : Entry → Type 0
-ShortText e = length (e .text) ≤ longestText (isCode (22 ∷ 23 ∷ []) (e .code))
+ShortText e = length (e .text) ≤ longestText (e .code)
 
 short-texts : (es : List Entry) → T (shortTexts es) → All ShortText es
-unfolding shortTexts
+unfolding textsWithin
 short-texts [] h = all-nil
 short-texts (e ∷ es) h =
-    let long : ℕ = longestText (isCode (22 ∷ 23 ∷ []) (e .code)) in
+    let long : ℕ = longestText (e .code) in
     let fits : Bool = leb (length (e .text)) long in
     all-cons (leb→le (length (e .text)) long (and-left fits _ h)) (short-texts es (and-right fits _ h))
 
-longest : (b : Bool) → longestText b ≤ 255
+longest : (c : ℕ) → longestText c ≤ 255
 unfolding longestText
-longest true = omega arith
-longest false = omega arith
+longest c = go (isCode (22 ∷ 23 ∷ []) c)
+  where
+    go : (b : Bool) → elim b [ true ↦ 255 | false ↦ 64 ] ≤ 255
+    go true = omega arith
+    go false = omega arith
 
 sized : {es : List Entry} → All ShortText es → Values64 es → All Sized es
-sized h v = all-map (λ e s. (omega (arith, s .0, longest (isCode (22 ∷ 23 ∷ []) (e .code))), s .1, tt)) (all-both h v)
+sized h v = all-map (λ e s. (omega (arith, s .0, longest (e .code)), s .1, tt)) (all-both h v)
 
 sized-condition : (bytes : List ℕ) (c : Condition) → OnTape conditionRoot bytes c → All Sized (flatCondition c)
 unfolding conditionRoot small
@@ -107,7 +110,7 @@ sized-definition bytes d t = sized (short-texts (flatDef d) (and-left (shortText
 
 -- ------------------------------------------------------------------ the verdicts
 
-abbrev ShortRefusal : Refusal → Type 0
+abbrev pub ShortRefusal : Refusal → Type 0
 ShortRefusal r = RefusalMatches Short r
 
 declared-params : (ps : List MacroParam) → All ShortText (flatParams ps) → All Declared (namesOf ps)
@@ -120,7 +123,7 @@ unfolding namesOf
 length-names [] = refl
 length-names (p ∷ ps) = omega (arith, length-names ps)
 
-short-check : (bytes : List ℕ) (def : MacroDef) → OnTape definitionRoot bytes def → Given ShortRefusal (checkDef def)
+pub short-check : (bytes : List ℕ) (def : MacroDef) → OnTape definitionRoot bytes def → Given ShortRefusal (checkDef def)
 unfolding definitionRoot small checkDef fewParams flatDef
 short-check bytes def t =
     let texts : All ShortText (flatDef def) = short-texts (flatDef def) (and-left (shortTexts (flatDef def)) _ (t .small)) in
@@ -140,19 +143,19 @@ unfolding flatDefs
 sized-defs [] h = all-nil
 sized-defs (d ∷ ds) h = all-cons (all-left (flatDef d) _ h) (sized-defs ds (all-right (flatDef d) h))
 
-sized-registry : (bytes : List ℕ) (ds : List MacroDef) → OnTape registryRoot bytes ds → All SizedDef ds
+pub sized-registry : (bytes : List ℕ) (ds : List MacroDef) → OnTape registryRoot bytes ds → All SizedDef ds
 unfolding registryRoot small flatRegistry
 sized-registry bytes ds t =
     sized-defs ds (all-tail (sized (short-texts _ (and-left (shortTexts (flatRegistry ds)) _ (t .small))) (t .range .values)))
 
-short-build : (ds : List MacroDef) → All SizedDef ds → Given ShortRefusal (build ds)
+pub short-build : (ds : List MacroDef) → All SizedDef ds → Given ShortRefusal (build ds)
 short-build ds h =
     given-build Name (record { reserved = λ n k s. (short-reserved n k, tt); duplicate = λ n k s p. (short-duplicate n k p, tt) }) ds
     (all-map (λ d s. def-name {P = Sized} d s .0) h)
 
 -- ------------------------------------------------------------------ the answers
 
-padded-length : (n : ℕ) (bytes : List ℕ) → length bytes ≤ n → length (padded n bytes) ≡ n
+pub padded-length : (n : ℕ) (bytes : List ℕ) → length bytes ≤ n → length (padded n bytes) ≡ n
 unfolding padded
 padded-length n bytes h =
     omega (arith, length-append bytes (replicate (n - length bytes) 0), length-replicate {A = ℕ} (n - length bytes) 0)
@@ -179,7 +182,7 @@ bounded-done tape b limit a n h k =
       whole-message = padded-length (b .messageLength) [] (omega arith);
     }
 
-bounded-refused : {A : Type 0} (tape : A → List ℕ) (b : Buffers) (limit : ℕ) (r : Refusal) (n : ℕ) → n ≤ limit → Short (r .message)
+pub bounded-refused : {A : Type 0} (tape : A → List ℕ) (b : Buffers) (limit : ℕ) (r : Refusal) (n : ℕ) → n ≤ limit → Short (r .message)
     → length (r .message) ≤ b .messageLength → Bounded b limit (answer tape b (Outcome.refused r n))
 unfolding answer
 bounded-refused tape b limit r n h s k =
@@ -197,17 +200,17 @@ unfolding numberAlone
 bounded-number-alone tape b limit number = bounded-refused tape b limit _ 0 (omega arith) no-message (omega arith)
 
 -- a tape that is read: 2, 3, or what is accepted
-bounded-reading : {A B : Type 0} (tape : B → List ℕ) (b : Buffers) (limit : ℕ) (o : Reading A) (k : A → Outcome B)
+pub bounded-reading : {A B : Type 0} (tape : B → List ℕ) (b : Buffers) (limit : ℕ) (o : Reading A) (k : A → Outcome B)
     → ((a : A) → o ≡ Reading.accepted a → Bounded b limit (answer tape b (k a))) → Bounded b limit (answer tape b (reading o k))
 bounded-reading tape b limit o k f =
     of-reading (λ x. Bounded b limit (answer tape b x)) o k (bounded-number-alone tape b limit 2) (bounded-number-alone tape b limit 3) f
 
 -- ------------------------------------------------------------------ check and registry
 
-abbrev nothing : Unit {0} → List ℕ
+abbrev pub nothing : Unit {0} → List ℕ
 nothing u = []
 
-bounded-message : (m : ℕ) (o : Outcome (Unit {0})) → (2048 ≤ m → Bounded (messageAlone m) 0 (answer nothing (messageAlone m) o))
+pub bounded-message : (m : ℕ) (o : Outcome (Unit {0})) → (2048 ≤ m → Bounded (messageAlone m) 0 (answer nothing (messageAlone m) o))
     → Bounded (messageAlone m) 0 (messageAnswer m o)
 unfolding messageAnswer
 bounded-message m o f = go (leb 2048 m) (leb→le 2048 m)
@@ -217,7 +220,7 @@ bounded-message m o f = go (leb 2048 m) (leb→le 2048 m)
     go true q = f (q tt)
     go false q = bounded-number-alone nothing (messageAlone m) 0 1
 
-bounded-verdict : (m : ℕ) {v : Verdict} → 2048 ≤ m → Given ShortRefusal v → Bounded (messageAlone m) 0 (answer nothing (messageAlone m) (verdict v))
+pub bounded-verdict : (m : ℕ) {v : Verdict} → 2048 ≤ m → Given ShortRefusal v → Bounded (messageAlone m) 0 (answer nothing (messageAlone m) (verdict v))
 unfolding verdict
 bounded-verdict m long passes = bounded-done nothing (messageAlone m) 0 tt 0 (omega arith) (omega arith)
 bounded-verdict m long (refuses {r = r} s) = bounded-refused nothing (messageAlone m) 0 r 0 (omega arith) (s .0) (omega (arith, s .0))

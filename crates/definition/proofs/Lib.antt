@@ -3,6 +3,7 @@ pub mod Cases
 pub mod Demand3
 pub mod Residue
 pub mod Kept
+pub mod KeptLater
 pub mod Whole
 pub mod Withdrawn
 pub mod Older
@@ -16,6 +17,7 @@ pub mod Counts
 pub mod Preview
 pub mod Library
 pub mod Merge
+pub mod Profile
 pub mod Decimal
 mod Good
 pub mod Values
@@ -32,3 +34,4 @@ mod Borne
 mod Readings
 mod Join
 mod Widen
+mod Unchanged

@@ -17,7 +17,7 @@ use Rattle.format.specs.Ast.{MacroDef}
 use Rattle.format.specs.Flat.{flatDef}
 use Rattle.format.specs.Tape.{Reading, registryRoot, read}
 use Rattle.format.proofs.All.{All, all-nil, all-cons, all-head}
-use Rattle.format.proofs.Registries.{Alone, definitions-alone}
+use Rattle.format.proofs.Registries.{Alone, alone-read, definitions-alone}
 use Rattle.definition.specs.Outcome.{Refusal, Outcome, pure}
 use Rattle.definition.specs.Check.{Verdict, checkDef}
 use Rattle.definition.specs.Registry.{build}
@@ -46,7 +46,7 @@ past-end (d ∷ ds) (suc i) h = past-end ds i (omega arith)
 pub checked-alone : CheckedAlone
 unfolding checkAtAnswer checkAnswer reading unless checkFound
 checked-alone m registry defs b i d e =
-    let own = (found-at (definitions-alone registry (b .is-tape) defs (b .its-defs)) i d e) in
+    let own = alone-read d (found-at (definitions-alone registry (b .is-tape) defs (b .its-defs)) i d e) in
     rw (b .its-defs, b .builds, e, own) refl
 
 pub checked-past-the-end : CheckedPastTheEnd
@@ -135,11 +135,11 @@ nothing-listed r (x ∷ rows) n h =
 -- a definition whose check passes, by the answer
 passes-alone : (m : ℕ) (d : MacroDef) → 2048 ≤ m → Alone d → checkDef d ≡ none → checkAnswer m (encode (flatDef d)) .number ≡ 0
 unfolding checkAnswer messageAnswer answer reading verdict
-passes-alone m d long own h = rw (le-leb 2048 m long, own, h) refl
+passes-alone m d long own h = rw (le-leb 2048 m long, alone-read d own, h) refl
 
 alone-passes : (d : MacroDef) → Alone d → checkAnswer 2048 (encode (flatDef d)) .number ≡ 0 → checkDef d ≡ none
 unfolding checkAnswer messageAnswer answer reading verdict
-alone-passes d own h = go (checkDef d) (numbered-def d) (rw (own) at h)
+alone-passes d own h = go (checkDef d) (numbered-def d) (rw (alone-read d own) at h)
   where
     nothing : Unit {0} → List ℕ
     nothing u = []
@@ -219,7 +219,7 @@ empty-list-covers registry defs q h l =
       substitutions = λ i d e b limit file input call k right.
           let own : Alone d = found-at a i d e in
           let zero-answer : checkAnswer 2048 (encode (flatDef d)) .number ≡ 0 = each-passes defs a (c .1) i d e 2048 (omega arith) in
-          demand3-on-tapes b limit file (encode (flatDef d)) input d call (record { its-definition = own; its-call = k })
+          demand3-on-tapes b limit file (encode (flatDef d)) input d call (record { its-definition = alone-read d own; its-call = k })
           (record {
             messageLength = 2048;
             long-enough = omega arith;

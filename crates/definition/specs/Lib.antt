@@ -16,6 +16,7 @@ pub mod Demand3
 pub mod Residue
 pub mod Library
 pub mod Merge
+pub mod Profile
 pub mod Names
 pub mod Lengthened
 pub mod Kept

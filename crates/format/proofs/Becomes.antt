@@ -4,20 +4,21 @@
 -- Assumes nothing.
 use Prim.Native.Nat.{ℕ, suc, _+_, _*_}
 use native.Mathlib.Omega.{arith}
-use mathlib.Core.Path.{_≡_, refl, sym, _∙_, ap}
+use mathlib.Core.Path.{_≡_, refl, sym, _∙_, ap, ap₂}
 use mathlib.Core.List.{List, [], _∷_, _++_, append-assoc}
 use mathlib.Core.Bool.{Bool, true, false, _&&_, _||_, and-assoc, or-assoc}
-use lib.Dec.{eqb, leb}
+use lib.Dec.{eqb, leb, le→leb}
 use lib.ListN.{length, length-append}
 use Rattle.format.specs.Entry.{Text, Entry, entry, textEntry, textOf}
 use Rattle.format.specs.Ast.{Condition, Term, AggExpr, Call, CallArg, CallArgs, NamedArgs, Terms, Tree, MacroBody, MacroDef}
 use Rattle.format.specs.Flat.{flatTexts, flatInterval, flatWithin, flatSlot, flatBinder, flatBinders, flatCondition, flatTerm, flatAgg, flatCall, flatArg, flatArgs, flatFields, flatTerms, flatTree, flatParams, flatBody, flatDef, flatDefs, flatRegistry}
 use Rattle.format.specs.Macro.{isCode, isMacro, holdsMacro, holds, tally}
 use Rattle.format.specs.Limits.{weigh}
-use Rattle.format.specs.Tape.{longestText, shortTexts}
+use Rattle.format.specs.Tape.{textsWithin}
 use Rattle.format.specs.Replace.{replaceCondition, replaceTerm, replaceAgg, replaceCall, replaceArg, replaceArgs, replaceFields, replaceTerms, replaceTree, replaceBody, replaceDef, replaceDefs}
 use Rattle.format.specs.DeMorgan.{deMorgan}
 use Rattle.format.proofs.All.{All, all-nil, all-cons, all-head, all-tail, all-append, all-left, all-right}
+use Rattle.format.proofs.Tests.{is-true}
 use Rattle.format.proofs.Counts.{length-args, length-fields, length-terms, length-defs}
 use Rattle.format.proofs.Stands.{text-append}
 use Rattle.format.proofs.Parts.{Later, Part, part-texts, later-interval, later-within, part-slot, part-binder, part-binders, part-sigil, part-params, later, later-no-or}
@@ -210,19 +211,32 @@ same-macros (joined {es} {fs} {es′} {fs′} b b′) =
 same-macros (parted {s = s} l r {l′ = l′} {r′ = r′} b b′) =
     rw (macro-append (flatCondition l) (flatCondition r), macro-append l′ (entry 3 s ∷ r′), same-macros b, same-macros b′) refl
 
-short-append : (es fs : List Entry) → shortTexts (es ++ fs) ≡ (shortTexts es && shortTexts fs)
-unfolding shortTexts
-short-append [] fs = refl
-short-append (e ∷ es) fs =
-    rw (short-append es fs)
-    (sym (and-assoc (leb (length (e .text)) (longestText (isCode (22 ∷ 23 ∷ []) (e .code)))) (shortTexts es) (shortTexts fs)))
+short-append : (most : ℕ → ℕ) (es fs : List Entry) → textsWithin most (es ++ fs) ≡ (textsWithin most es && textsWithin most fs)
+unfolding textsWithin
+short-append most [] fs = refl
+short-append most (e ∷ es) fs =
+    rw (short-append most es fs)
+    (sym (and-assoc (leb (length (e .text)) (most (e .code))) (textsWithin most es) (textsWithin most fs)))
 
-pub same-texts : {es fs : List Entry} → Becomes es fs → shortTexts fs ≡ shortTexts es
-unfolding shortTexts longestText isCode
-same-texts nothing = refl
-same-texts (kept {e = e} h b) =
-    ap (λ (x : Bool). leb (length (e .text)) (longestText (isCode (22 ∷ 23 ∷ []) (e .code))) && x) (same-texts b)
-same-texts (joined {es} {fs} {es′} {fs′} b b′) =
-    rw (short-append es es′, short-append fs fs′, same-texts b, same-texts b′) refl
-same-texts (parted {s = s} l r {l′ = l′} {r′ = r′} b b′) =
-    rw (short-append (flatCondition l) (flatCondition r), short-append l′ (entry 3 s ∷ r′), same-texts b, same-texts b′) refl
+-- an entry without text
+no-text : (most : ℕ → ℕ) (c s : ℕ) (es : List Entry) → textsWithin most (entry c s ∷ es) ≡ textsWithin most es
+unfolding textsWithin
+no-text most c s es = go (leb 0 (most c)) (is-true (le→leb 0 (most c) (omega arith)))
+  where
+    go : (b : Bool) → b ≡ true → (b && textsWithin most es) ≡ textsWithin most es
+    go b h = rw h refl
+
+pub same-texts : (most : ℕ → ℕ) {es fs : List Entry} → Becomes es fs → textsWithin most fs ≡ textsWithin most es
+unfolding textsWithin
+same-texts most nothing = refl
+same-texts most (kept {e = e} h b) =
+    ap (λ (x : Bool). leb (length (e .text)) (most (e .code)) && x) (same-texts most b)
+same-texts most (joined {es} {fs} {es′} {fs′} b b′) =
+    rw (short-append most es es′, short-append most fs fs′, same-texts most b, same-texts most b′) refl
+same-texts most (parted {s = s} l r {l′ = l′} {r′ = r′} b b′) =
+    let both : List Entry = l′ ++ entry 3 s ∷ r′ in
+    no-text most 3 s (entry 1 s ∷ entry 3 s ∷ both)
+    ∙ (no-text most 1 s (entry 3 s ∷ both)
+    ∙ (no-text most 3 s both
+    ∙ (short-append most l′ (entry 3 s ∷ r′)
+    ∙ (ap₂ _&&_ (same-texts most b) (no-text most 3 s r′ ∙ same-texts most b′) ∙ (sym (short-append most (flatCondition l) (flatCondition r)) ∙ sym (no-text most 2 s (flatCondition l ++ flatCondition r)))))))

@@ -6,7 +6,8 @@ use mathlib.Core.List.{List, []}
 use mathlib.Core.Bool.{Bool, true, false}
 use Prim.Native.Nat.{ℕ}
 use lib.Dec.{T}
-use Rattle.format.specs.Tape.{Reading, Root, conditionRoot, definitionRoot, callRoot, registryRoot, treeRoot, small, readLimits, accept, Bytes}
+use Rattle.format.specs.Ast.{Condition}
+use Rattle.format.specs.Tape.{Reading, Root, conditionRoot, namedRoot, definitionRoot, callRoot, registryRoot, treeRoot, small, readLimits, accept, Bytes}
 use Rattle.format.proofs.Spells.{Spells, s-condition-root, s-definition, s-call, s-registry-root, s-tree-root}
 use Rattle.format.proofs.Builds.{Rooted, rooted-condition, rooted-definition, rooted-call, rooted-registry, rooted-tree}
 use Rattle.format.proofs.Accepted.{OnTape, accepted-on-tape}
@@ -39,6 +40,13 @@ exactly root law bytes q a = (accepted-on-tape root (law .spells) bytes q a, on-
 pub lawful-condition : Lawful conditionRoot
 unfolding conditionRoot
 lawful-condition = record { spells = s-condition-root; rooted = rooted-condition; texted = well-condition }
+
+pub lawful-named : (most : ℕ) → Lawful (namedRoot most)
+unfolding namedRoot conditionRoot
+lawful-named most = record { spells = s-condition-root; rooted = same; texted = well-condition }
+  where
+    same : (c : Condition) → Rooted (namedRoot most) c
+    same c = let r = rooted-condition c in record { stack = r .stack; built = r .built; taken = r .taken }
 
 pub lawful-definition : Lawful definitionRoot
 unfolding definitionRoot

@@ -13,7 +13,7 @@ use Rattle.format.specs.Flat.{flatCondition, flatTerm, flatCall, flatDef
 use Rattle.format.specs.Build.{Item, popTerm, pop, asTerm, only, build}
 use Rattle.format.specs.Limits.{nodeWeight, callWeight, fitsSizes, fitsDepths}
 use Rattle.format.specs.Macro.{holds}
-use Rattle.format.specs.Tape.{Reading, Root, conditionRoot, termRoot, definitionRoot, callRoot, registryRoot, shortTexts, small, readTape, readTree, accept}
+use Rattle.format.specs.Tape.{Reading, Root, conditionRoot, termRoot, definitionRoot, callRoot, registryRoot, longestText, small, readTape, readTree, accept}
 use Rattle.format.specs.Older.{older, printable, olderEntries, fitsOlder, Kind, TreeOf, rootOf, kindOf, headOr0, firstCode, lastYear, acceptLastYear}
 use Rattle.format.proofs.Tests.{is-true}
 use Rattle.format.proofs.Spells.{s-term}
@@ -42,7 +42,7 @@ unfolding termRoot
 rewrites-term =
     record {
       becomes = becomes-term;
-      short = same-texts;
+      short = same-texts longestText;
       weighs = weighs-term;
       heavier = heavier-term;
       same-params = λ x t. refl;

@@ -14,7 +14,7 @@ use Rattle.format.specs.Flat.{flatParams, flatBody, flatDef, flatDefs, f
 use Rattle.format.specs.Utf8.{follow, between, wellFormed, wellTexts}
 use Rattle.format.specs.Limits.{nodeWeight, callWeight, deepBody, deepBodies, fitsSizes, fitsDepths}
 use Rattle.format.specs.Macro.{isCode, holds}
-use Rattle.format.specs.Tape.{Reading, longestText, shortTexts, fewParams, fewParamsEach, small, definitionRoot, registryRoot, read, Bytes}
+use Rattle.format.specs.Tape.{Reading, longestText, textsWithin, shortTexts, fewParams, fewParamsEach, small, definitionRoot, registryRoot, read, Bytes}
 use Rattle.format.proofs.All.{All, all-nil, all-cons, all-head, all-tail, all-append, all-left, all-right, all-map}
 use Rattle.format.proofs.Tests.{and-left, and-right, and-both}
 use Rattle.format.proofs.Accepted.{Values64, InRange, OnTape}
@@ -30,14 +30,14 @@ use Rattle.format.proofs.Rewritten.{rewrites-definition, rewrites-regis
 pub record Fair (e : Entry) : Type 0 where
   pub value : e .value < 256 ^ 8
   pub text : Whole e
-  pub short : T (leb (length (e .text)) (longestText (isCode (22 ∷ 23 ∷ []) (e .code))))
+  pub short : T (leb (length (e .text)) (longestText (e .code)))
   pub no-or : NoOr e
 
 fair-each : (es : List Entry) → Values64 es → All Whole es → All NoOr es → T (shortTexts es) → All Fair es
-unfolding shortTexts
+unfolding textsWithin
 fair-each [] v p o h = all-nil
 fair-each (e ∷ es) v p o h =
-    let fits : Bool = leb (length (e .text)) (longestText (isCode (22 ∷ 23 ∷ []) (e .code))) in
+    let fits : Bool = leb (length (e .text)) (longestText (e .code)) in
     all-cons (record { value = all-head v; text = all-head p; short = and-left fits _ h; no-or = all-head o })
     (fair-each es (all-tail v) (all-tail p) (all-tail o) (and-right fits _ h))
 
@@ -54,10 +54,10 @@ pub fair-no-or : {es : List Entry} → All Fair es → All NoOr es
 fair-no-or h = all-map (λ e f. f .no-or) h
 
 pub fair-short : {es : List Entry} → All Fair es → T (shortTexts es)
-unfolding shortTexts
+unfolding textsWithin
 fair-short all-nil = tt
 fair-short (all-cons {a = e} f h) =
-    and-both (leb (length (e .text)) (longestText (isCode (22 ∷ 23 ∷ []) (e .code)))) _ (f .short) (fair-short h)
+    and-both (leb (length (e .text)) (longestText (e .code))) _ (f .short) (fair-short h)
 
 abbrev pub Fits : List Entry → Type 0
 Fits es = T (fitsSizes (length es) (length (textOf es)))
@@ -81,16 +81,27 @@ fits-within n t n′ t′ h k q =
 abbrev depthsFit : MacroDef → Bool
 depthsFit d = fitsDepths (deepBody nodeWeight (d .body)) (deepBody callWeight (d .body))
 
-pub definition-read : (d : MacroDef) → FairDef d → Fits (flatDef d) → read definitionRoot (encode (flatDef d)) ≡ Reading.accepted d
+-- on a tape of its own
+pub record Alone (d : MacroDef) : Type 0 where
+  pub on-tape : OnTape definitionRoot (encode (flatDef d)) d
+  pub no-or : All NoOr (flatDef d)
+
+pub alone-read : (d : MacroDef) → Alone d → read definitionRoot (encode (flatDef d)) ≡ Reading.accepted d
+unfolding definitionRoot
+alone-read d a = on-tape-read definitionRoot rewrites-definition lawful-definition (a .on-tape) (a .no-or)
+
+fair-alone : (d : MacroDef) → FairDef d → Fits (flatDef d) → Alone d
 unfolding definitionRoot small
-definition-read d f k =
-    on-tape-read definitionRoot rewrites-definition lawful-definition
-    (record {
-      encoded = refl;
-      range = fair-range (f .entries) k;
-      small = and-both (shortTexts (flatDef d)) _ (fair-short (f .entries)) (and-both (depthsFit d) _ (f .depths) (f .few));
-    })
-    (fair-no-or (f .entries))
+fair-alone d f k =
+    record {
+      on-tape =
+          record {
+            encoded = refl;
+            range = fair-range (f .entries) k;
+            small = and-both (shortTexts (flatDef d)) _ (fair-short (f .entries)) (and-both (depthsFit d) _ (f .depths) (f .few));
+          };
+      no-or = fair-no-or (f .entries);
+    }
 
 -- the two parts of a list of entries fit if the whole does
 fits-left : (es fs : List Entry) → Fits (es ++ fs) → Fits es
@@ -102,10 +113,6 @@ fits-right : (es fs : List Entry) → Fits (es ++ fs) → Fits fs
 fits-right es fs k =
     fits-within (length fs) (length (textOf fs)) (length (es ++ fs)) (length (textOf (es ++ fs)))
     (omega (arith, length-append es fs)) (rw (text-append es fs) (omega (arith, length-append (textOf es) (textOf fs)))) k
-
--- what is on a definition's own tape
-abbrev pub Alone : MacroDef → Type 0
-Alone d = read definitionRoot (encode (flatDef d)) ≡ Reading.accepted d
 
 -- the deepest is no deeper than allowed exactly if each is
 deepest : (n n′ c c′ : ℕ) → T (fitsDepths (max n n′) (max c c′)) → T (fitsDepths n c) × T (fitsDepths n′ c′)
@@ -155,7 +162,7 @@ alone-each : (ds : List MacroDef) → All FairDef ds → Fits (flatDefs ds) → 
 unfolding flatDefs
 alone-each [] all-nil k = all-nil
 alone-each (d ∷ ds) (all-cons f h) k =
-    all-cons (definition-read d f (fits-left (flatDef d) (flatDefs ds) k)) (alone-each ds h (fits-right (flatDef d) (flatDefs ds) k))
+    all-cons (fair-alone d f (fits-left (flatDef d) (flatDefs ds) k)) (alone-each ds h (fits-right (flatDef d) (flatDefs ds) k))
 
 -- each definition of an accepted registry is accepted on a tape of its own
 pub definitions-alone : (bytes : List ℕ) → Bytes bytes → (ds : List MacroDef) → read registryRoot bytes ≡ Reading.accepted ds → All Alone ds

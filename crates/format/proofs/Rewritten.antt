@@ -10,19 +10,20 @@ use lib.Dec.{T, leb, eqb, leb→le, le→leb}
 use lib.ListN.{length}
 use Rattle.format.specs.Entry.{Entry, entry, encode, textOf}
 use Rattle.format.specs.Ast.{Condition, Call, Tree, MacroDef}
+use Rattle.format.specs.Flat.{flatCondition}
 use Rattle.format.specs.Limits.{nodeWeight, callWeight, fitsSizes, fitsDepths}
 use Rattle.format.specs.Macro.{holdsMacro, holds, tally}
 use Rattle.format.specs.Replace.{Replacement, replaceDef, replaceDefs}
 use Rattle.format.specs.DeMorgan.{deMorgan, orWeight}
 use Rattle.format.specs.Build.{Stack, build}
-use Rattle.format.specs.Tape.{Reading, Root, fewParams, fewParamsEach, conditionRoot, definitionRoot, callRoot, registryRoot, treeRoot, shortTexts, small, readLimits, readTape, readRoot, readStack, readTree, accept, fits, rewrite, read, Bytes, rewritten}
+use Rattle.format.specs.Tape.{Reading, Root, fewParams, fewParamsEach, conditionRoot, definitionRoot, callRoot, registryRoot, treeRoot, namedRoot, longestText, longestNamed, textsWithin, shortTexts, small, readLimits, readTape, readRoot, readStack, readTree, accept, fits, rewrite, read, Bytes, rewritten}
 use Rattle.format.specs.Rewritten.{Rewriting, weighted, mapReading, ReadAs}
 use Rattle.format.proofs.All.{All, all-nil, all-cons, all-both}
 use Rattle.format.proofs.Tests.{and-left, and-right, and-both, or-none, or-neither, is-true}
 use Rattle.format.proofs.Spells.{flatStack, s-at-root, build-spells}
 use Rattle.format.proofs.Accepted.{InRange, OnTape, accepted-on-tape, Accepts, was-malformed, was-too-large, was-accepted, Entries, reads-tape}
 use Rattle.format.proofs.Encodes.{fitting}
-use Rattle.format.proofs.Exact.{Lawful, within-limits, on-tape-accepted, lawful-condition, lawful-definition, lawful-call, lawful-registry, lawful-tree}
+use Rattle.format.proofs.Exact.{Lawful, within-limits, on-tape-accepted, lawful-condition, lawful-named, lawful-definition, lawful-call, lawful-registry, lawful-tree}
 use Rattle.format.proofs.Utf8.{all-whole, whole-all}
 use Rattle.format.proofs.Counts.{few-each}
 use Rattle.format.proofs.Becomes.{Becomes, becomes-condition, becomes-call, becomes-tree, becomes-definition, becomes-registry, same-text, more-entries, all-become, NoOr, become-no-or, same-macros, same-texts}
@@ -58,7 +59,19 @@ unfolding conditionRoot
 rewrites-condition =
     record {
       becomes = becomes-condition;
-      short = same-texts;
+      short = same-texts longestText;
+      weighs = weighs-condition;
+      heavier = heavier-condition;
+      same-params = λ x c. refl;
+      kept = unchanged-condition;
+    }
+
+pub rewrites-named : (most : ℕ) → Rewrites (namedRoot most)
+unfolding namedRoot
+rewrites-named most =
+    record {
+      becomes = becomes-condition;
+      short = same-texts (longestNamed most);
       weighs = weighs-condition;
       heavier = heavier-condition;
       same-params = λ x c. refl;
@@ -70,7 +83,7 @@ unfolding callRoot
 rewrites-call =
     record {
       becomes = becomes-call;
-      short = same-texts;
+      short = same-texts longestText;
       weighs = weighs-call;
       heavier = heavier-call;
       same-params = λ x c. refl;
@@ -82,7 +95,7 @@ unfolding definitionRoot replaceDef fewParams deMorgan
 rewrites-definition =
     record {
       becomes = becomes-definition;
-      short = same-texts;
+      short = same-texts longestText;
       weighs = λ h d. weighs-body h (d .body);
       heavier = λ w v h d. heavier-body w v h (d .body);
       same-params = λ x d. refl;
@@ -94,7 +107,7 @@ unfolding registryRoot
 rewrites-registry =
     record {
       becomes = becomes-registry;
-      short = same-texts;
+      short = same-texts longestText;
       weighs = weighs-bodies;
       heavier = heavier-bodies;
       same-params = few-each;
@@ -287,3 +300,27 @@ module _ {A : Type 0} (root : Root A) (r : Rewrites root) where
             no-or = λ a h. no-holds (read-no-or bytes a h);
             as-accepted = λ a n h. on-tape-read (accepted-on-tape root (law .spells) bytes q a h) (holds-no (root .flat a) n);
           }
+
+-- ------------------------------------------------------------------ longer names
+
+-- what is read with longer names, and has none, is read without
+pub read-named : (most : ℕ) (bytes : List ℕ) → Bytes bytes → (c : Condition) → read (namedRoot most) bytes ≡ Reading.accepted c
+    → T (shortTexts (flatCondition c)) → read conditionRoot bytes ≡ Reading.accepted c
+unfolding read rewrite fits small namedRoot conditionRoot
+read-named most bytes q c h short =
+    let f = read-from (namedRoot most) (rewrites-named most) bytes c h in
+    let d : Condition = f .given in
+    let named = accepted-on-tape (namedRoot most) (lawful-named most .spells) bytes q d (f .was-given) in
+    let texts : T (shortTexts (flatCondition d)) =
+    subst T (same-texts longestText (becomes-condition d)) (subst (λ (x : Condition). T (shortTexts (flatCondition x))) (sym (f .is-rewritten)) short) in
+    let plain : OnTape conditionRoot bytes d =
+    record {
+      encoded = named .encoded;
+      range = named .range;
+      small = and-both (shortTexts (flatCondition d)) _ texts (and-right (textsWithin (longestNamed most) (flatCondition d)) _ (named .small));
+    } in
+    let sizes : Bool = fitsSizes (length (flatCondition c)) (length (textOf (flatCondition c))) in
+    let behind = and-right (textsWithin (longestNamed most) (flatCondition c)) _ (and-right sizes _ (f .fitting)) in
+    rw (on-tape-accepted conditionRoot lawful-condition plain, f .is-rewritten)
+    (within-limits (sizes && small conditionRoot (flatCondition c) c) c
+    (and-both sizes _ (and-left sizes _ (f .fitting)) (and-both (shortTexts (flatCondition c)) _ short behind)))

@@ -94,13 +94,19 @@ pub record Root (A : Type 0) : Type 0 where
   pub replace : Replacement → A → A
 
 -- "in an input, a text of 64 bytes, or 255 for 22 and 23"
-unfoldable pub longestText : Bool → ℕ
-longestText true = 255
-longestText false = 64
+unfoldable pub longestText : (code : ℕ) → ℕ
+longestText c = elim (isCode (22 ∷ 23 ∷ []) c) [ true ↦ 255 | false ↦ 64 ]
 
-unfoldable pub shortTexts : List Entry → Bool
-shortTexts [] = true
-shortTexts (e ∷ es) = leb (length (e .text)) (longestText (isCode (22 ∷ 23 ∷ []) (e .code))) && shortTexts es
+-- where names, the texts of 27 and 43, may have more bytes (document 02, points 3 and 10)
+unfoldable pub longestNamed : (most code : ℕ) → ℕ
+longestNamed most c = elim (isCode (27 ∷ 43 ∷ []) c) [ true ↦ most | false ↦ longestText c ]
+
+unfoldable pub textsWithin : (longest : ℕ → ℕ) → List Entry → Bool
+textsWithin longest [] = true
+textsWithin longest (e ∷ es) = leb (length (e .text)) (longest (e .code)) && textsWithin longest es
+
+abbrev pub shortTexts : List Entry → Bool
+shortTexts es = textsWithin longestText es
 
 -- "16 parameters"
 unfoldable pub fewParams : MacroDef → Bool
@@ -117,6 +123,17 @@ conditionRoot =
       reader = pop asCondition;
       flat = flatCondition;
       texts = shortTexts;
+      deep = deepCondition;
+      few = λ c. true;
+      replace = replaceCondition;
+    }
+
+unfoldable pub namedRoot : (most : ℕ) → Root Condition
+namedRoot most =
+    record {
+      reader = pop asCondition;
+      flat = flatCondition;
+      texts = textsWithin (longestNamed most);
       deep = deepCondition;
       few = λ c. true;
       replace = replaceCondition;
@@ -235,6 +252,6 @@ Bytes (b ∷ bs) = (b < 256) × Bytes bs
 unfoldable pub openTape : Unit {0}
 unfolding
     fromLe isText textWidth cons takeEntry split readTexts readSections readSizes readTape fewParams
-    fewParamsEach conditionRoot definitionRoot callRoot registryRoot termRoot treeRoot longestText shortTexts small readLimits
+    fewParamsEach conditionRoot definitionRoot callRoot registryRoot termRoot treeRoot namedRoot longestText longestNamed textsWithin small readLimits
     readRoot readStack readTree accept fits rewrite read
 openTape = tt

@@ -12,9 +12,10 @@ use lib.ListN.{List·getD-eq-default}
 use Rattle.format.specs.DeMorgan.{orWeight}
 use Rattle.format.specs.Limits.{isNode, isCall, weigh, nodeWeight, callWeight}
 use Rattle.format.specs.Macro.{isCode}
-use Rattle.format.specs.Tape.{isText, longestText}
+use Rattle.format.specs.Tape.{isText, longestText, longestNamed}
 use Rattle.format.proofs.Tests.{and-left, and-right, is-false}
 use Rattle.format.proofs.Weights.{deMorgan-outweighs}
+use Rattle.grammar.specs.Pick.{pick}
 use Rattle.grammar.specs.Words.{temporalWords, rowAt, textMark, longMark, nameMark, nestingOf, callsOf, longestOf}
 use Rattle.grammar.proofs.Table.{at, same, same-eq}
 
@@ -107,13 +108,24 @@ call-marks =
     (λ c h. eqb→eq _ _ (at (λ (k : ℕ). eqb (callsOf (rowAt temporalWords k)) (callWeight k)) 0 77 tt c (omega arith) h))
     (λ c h. rw (past-row c h, ne-eqb c 54 (λ (e : c ≡ 54). omega arith)))
 
--- with 64 for names the longest texts are format's
-pub longest-marks : (c : ℕ) → longestOf 64 (rowAt temporalWords c) ≡ longestText (isCode (22 ∷ 23 ∷ []) c)
-unfolding temporalWords isCode longestText
-longest-marks =
-    everywhere
-    (λ c h. eqb→eq _ _ (at (λ (k : ℕ). eqb (longestOf 64 (rowAt temporalWords k)) (longestText (isCode (22 ∷ 23 ∷ []) k))) 0 77 tt c (omega arith) h))
-    (λ c h. rw (past-row c h, no-code (22 ∷ 23 ∷ []) c tt h))
+-- with a figure for names the longest texts are format's
+pub longest-marks : (most c : ℕ) → longestOf most (rowAt temporalWords c) ≡ longestNamed most c
+unfolding longestNamed longestText
+longest-marks most c = rw (name-marks c, long-marks c) (go (isCode (27 ∷ 43 ∷ []) c) (isCode (22 ∷ 23 ∷ []) c))
+  where
+    go : (name long : Bool)
+        → pick name most (pick long 255 64)
+        ≡ elim name [ true ↦ most | false ↦ elim long [ true ↦ 255 | false ↦ 64 ] ]
+    go true long = refl
+    go false true = refl
+    go false false = refl
+
+-- and with 64 they are those of the other inputs
+pub longest-64 : (c : ℕ) → longestNamed 64 c ≡ longestText c
+unfolding longestNamed longestText isCode
+longest-64 =
+    everywhere (λ c h. eqb→eq _ _ (at (λ (k : ℕ). eqb (longestNamed 64 k) (longestText k)) 0 77 tt c (omega arith) h))
+    (λ c h. rw (longestNamed, no-code (27 ∷ 43 ∷ []) c tt h))
 
 abbrev pub temporal : Table
 temporal =

@@ -12,6 +12,7 @@ ghost use Rattle.definition.specs.Counts.{freshCounts, expandCounts};
 ghost use Rattle.definition.specs.Preview.{previewAnswer};
 ghost use Rattle.definition.specs.Library.{libraryAnswer, checkAtAnswer};
 ghost use Rattle.definition.specs.Merge.{mergeAnswer};
+ghost use Rattle.definition.specs.Profile.{profileAnswer};
 ghost use Rattle.answer.specs.Matches.{buffers};
 ghost use Rattle.neukolja.specs.Words.{wordsOf, wordsWith, sevenOf, sevenWith};
 
@@ -167,4 +168,11 @@ pub extern "C" fn neukolja_merge(
     ensures { λ _. ⌜ wordsWith (now (answer .exit)) (now (result .exit)) [] (now (message .exit)) ≡ mergeAnswer (length (now (result .entry))) (length (now (message .entry))) (now (first .entry)) (now (second .entry)) ⌝ }
 {
     write_words(merge::merge(first, second, result, message), answer);
+}
+
+#[no_mangle]
+pub extern "C" fn neukolja_profile(condition: &[u8], answer: &mut [u64; 5])
+    ensures { λ _. ⌜ wordsWith (now (answer .exit)) [] [] [] ≡ profileAnswer (now (condition .entry)) ⌝ }
+{
+    write_words(profile::profile(condition), answer);
 }

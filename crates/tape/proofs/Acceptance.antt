@@ -64,9 +64,13 @@ pub record RootBy {t : Table} (trees : Language t) (longest : ℕ) {A : Type 0} 
   pub limits : (a : A) → (leb (deep a (t .nodes (isLimited longest))) 64 && (leb (deep a (t .calls)) 4 && listed a))
       ≡ (fitsDepths (root .deep nodeWeight a) (root .deep callWeight a) && root .few a)
 
--- by the table of document 01, where 64 bytes of text are the most, with the figures of the rewritten tape
+-- by the table of document 01, with the longest text of a name, and with the figures of the rewritten tape
+abbrev pub RootNamed : {A : Type 0} → ℕ → Root A → ℕ → Type 0
+RootNamed longest root sort = RootBy temporal-trees longest (weighted root) sort
+
+-- where 64 bytes of text are the most
 abbrev pub RootOf : {A : Type 0} → Root A → ℕ → Type 0
-RootOf root sort = RootBy temporal-trees 64 (weighted root) sort
+RootOf root sort = RootNamed 64 root sort
 
 -- ------------------------------------------------------------------ the tree of some entries
 

@@ -23,7 +23,7 @@ use Rattle.tape.specs.Scan.{skipAt}
 use Rattle.tape.specs.declared.layout.Layout.{Layout}
 use Rattle.tape.specs.declared.layout.Place.{Place}
 use Rattle.tape.specs.declared.scan.Skipped.the-variants.{At}
-use Rattle.tape.proofs.Acceptance.{RootOf}
+use Rattle.tape.proofs.Acceptance.{RootNamed}
 use Rattle.tape.proofs.Passing.{Passes}
 use Rattle.tape.proofs.Roots.{Accepted}
 use Rattle.tape.proofs.Runs.{place, Run, run-front, run-back, skip-run, size-run}
@@ -61,7 +61,7 @@ pub record Inside (s : List ℕ) (l : Layout) (p : Place) (es : List Entry) : Ty
   pub texted : WellTexted es
 
 -- the tree of an accepted slice, at its start
-pub accepted-inside : {A : Type 0} {root : Root A} {sort : ℕ} {s : List ℕ} {l : Layout} {a : A} → RootOf root sort → Accepted root s l a
+pub accepted-inside : {A : Type 0} {root : Root A} {longest sort : ℕ} {s : List ℕ} {l : Layout} {a : A} → RootNamed longest root sort → Accepted root s l a
     → Inside s l (place 0 0) (root .flat a)
 unfolding weighted
 accepted-inside {a = a} r h = record { run = h .run; texted = r .passes a .texted }
@@ -73,7 +73,7 @@ pub record Alone {A : Type 0} (root : Root A) (s : List ℕ) (l : Layout) (a : A
   pub depths : T (fitsDepths (root .deep nodeWeight a) (root .deep callWeight a))
   pub few : T (root .few a)
 
-pub accepted-alone : {A : Type 0} {root : Root A} {sort : ℕ} {s : List ℕ} {l : Layout} {a : A} → RootOf root sort → Rewrites root
+pub accepted-alone : {A : Type 0} {root : Root A} {longest sort : ℕ} {s : List ℕ} {l : Layout} {a : A} → RootNamed longest root sort → Rewrites root
     → Accepted root s l a → Alone root s l a
 accepted-alone {root = root} {a = a} r w h =
     record {

@@ -14,23 +14,25 @@ use Rattle.format.specs.Limits.{nodeWeight, callWeight, deepCondition, deepTerm
 use Rattle.format.specs.Macro.{tally}
 use Rattle.format.specs.Rewritten.{weighted}
 use Rattle.format.specs.Stands.{Stands}
-use Rattle.format.specs.Tape.{Reading, Root, conditionRoot, termRoot, callRoot, definitionRoot, registryRoot, shortTexts, fewParams, fewParamsEach, small, accept, Bytes}
+use Rattle.format.specs.Tape.{Reading, Root, conditionRoot, termRoot, callRoot, definitionRoot, registryRoot, namedRoot, longestNamed, textsWithin, shortTexts, fewParams, fewParamsEach, small, accept, Bytes}
 use Rattle.format.proofs.Accepted.{Values64, InRange, accepted-on-tape}
 use Rattle.format.proofs.Builds.{Rooted, rooted-condition, rooted-call, rooted-definition, rooted-registry}
+use Rattle.format.proofs.Exact.{lawful-named}
 use Rattle.format.proofs.LastYear.{lawful-term}
 use Rattle.format.proofs.Rewritten.{Rewrites}
 use Rattle.format.proofs.Spells.{s-condition-root, s-call, s-definition, s-registry-root}
 use Rattle.format.proofs.Stands.{stands-encoded}
 use Rattle.grammar.specs.Grammar as sort
 use Rattle.grammar.specs.Words.{temporalWords}
-use Rattle.grammar.proofs.Marks.{longest-marks}
-use Rattle.tape.specs.Accept.{acceptOf}
+use Rattle.grammar.specs.Waits.{isLimited}
+use Rattle.grammar.proofs.Marks.{longest-marks, longest-64}
+use Rattle.tape.specs.Accept.{acceptNamed}
 use Rattle.tape.specs.Header.{entriesOf}
 use Rattle.tape.specs.Layouts.{tapeLayout}
 use Rattle.tape.specs.declared.header.Opened.{Opened}
 use Rattle.tape.specs.declared.header.Opened.the-variants.{Tape}
 use Rattle.tape.specs.declared.layout.Layout.{Layout}
-use Rattle.tape.proofs.Acceptance.{RootOf, Holds, Answers, answers-2, answers-3, answers-tape, answers}
+use Rattle.tape.proofs.Acceptance.{RootOf, RootNamed, Holds, Answers, answers-2, answers-3, answers-tape, answers}
 use Rattle.tape.proofs.Passing.{shortIn}
 use Rattle.tape.proofs.Runs.{place, Run}
 use Rattle.format.proofs.Tests.{and-left, and-right}
@@ -38,10 +40,15 @@ use Rattle.format.proofs.Weights.{or-calls, or-nodes}
 use Rattle.tape.proofs.Trees.{passes-condition, passes-term, passes-call, passes-definition, passes-registry}
 
 -- the texts that are short by the table's marks are those that are short
-short-texts : (es : List Entry) → shortIn temporalWords 64 es ≡ shortTexts es
-unfolding shortTexts
+named-texts : (most : ℕ) (es : List Entry) → shortIn temporalWords most es ≡ textsWithin (longestNamed most) es
+unfolding textsWithin
+named-texts most [] = refl
+named-texts most (e ∷ es) = rw (longest-marks most (e .code), named-texts most es)
+
+short-texts : (es : List Entry) → textsWithin (longestNamed 64) es ≡ shortTexts es
+unfolding textsWithin
 short-texts [] = refl
-short-texts (e ∷ es) = rw (longest-marks (e .code), short-texts es)
+short-texts (e ∷ es) = rw (longest-64 (e .code), short-texts es)
 
 -- ------------------------------------------------------------------ the roots
 
@@ -52,7 +59,7 @@ rooted-weighted h = record { stack = h .stack; built = h .built; taken = h .take
 
 short-entries : (es : List Entry) → (shortIn temporalWords 64 es && leb (length es + 3 * tally 2 es) 1024)
     ≡ (shortTexts es && leb (length es + 3 * tally 2 es) 1024)
-short-entries es = ap (λ (b : Bool). b && leb (length es + 3 * tally 2 es) 1024) (short-texts es)
+short-entries es = ap (λ (b : Bool). b && leb (length es + 3 * tally 2 es) 1024) (named-texts 64 es ∙ short-texts es)
 
 depth-limits : (nodes : ℕ) (few : Bool) {calls calls′ : ℕ} → calls ≡ calls′
     → (leb nodes 64 && (leb calls 4 && few)) ≡ (fitsDepths nodes calls′ && few)
@@ -75,6 +82,26 @@ condition-root =
       passes = passes-condition;
       short = λ c h. short-entries (conditionRoot .flat c);
       limits = λ c. depth-limits (deepCondition (orWeight nodeWeight) c) true (ap (λ (w : ℕ → ℕ). deepCondition w c) (sym or-calls));
+    }
+
+-- a condition whose names may have more bytes
+pub named-root : (most : ℕ) → isLimited most ≡ true → RootNamed most (namedRoot most) sort.condition
+unfolding weighted namedRoot
+named-root most limited =
+    record {
+      is-sort = omega arith;
+      is-limited = limited;
+      tree = λ x. x;
+      spelled = λ x. refl;
+      sound = s-condition-root;
+      rooted = λ c. rooted-weighted (lawful-named most .rooted c);
+      deep = λ c w. deepCondition w c;
+      listed = λ c. true;
+      passes = passes-condition;
+      short = λ c h. ap (λ (b : Bool). b && leb (length (namedRoot most .flat c) + 3 * tally 2 (namedRoot most .flat c)) 1024)
+          (named-texts most (namedRoot most .flat c));
+      limits = λ c. rw limited
+          (depth-limits (deepCondition (orWeight nodeWeight) c) true (ap (λ (w : ℕ → ℕ). deepCondition w c) (sym or-calls)));
     }
 
 pub term-root : RootOf termRoot sort.term
@@ -154,12 +181,12 @@ pub record Accepted {A : Type 0} (root : Root A) (s : List ℕ) (l : Layout) (a 
   pub layout-is : l ≡ tapeLayout (length (root .flat a)) (length (textOf (root .flat a)))
   pub run : Run s l (place 0 0) (root .flat a)
   pub in-range : InRange (root .flat a)
-  pub short : T (shortTexts (root .flat a))
+  pub short : T (root .texts (root .flat a))
   pub entries-fit : length (root .flat a) + 3 * tally 2 (root .flat a) ≤ 1024
   pub depths : T (fitsDepths (root .deep (orWeight nodeWeight) a) (root .deep callWeight a))
   pub few : T (root .few a)
 
-module _ {A : Type 0} {root : Root A} {sort : ℕ} (r : RootOf root sort) (s : List ℕ) (bytes : Bytes s) where
+module _ {A : Type 0} {root : Root A} {longest sort : ℕ} (r : RootNamed longest root sort) (s : List ℕ) (bytes : Bytes s) where
   held-tape : (a : A) → accept (weighted root) s ≡ Reading.accepted a → Holds (weighted root) s a
       → Accepted root s (tapeLayout (length (root .flat a)) (length (textOf (root .flat a)))) a
   unfolding weighted small fitsSizes
@@ -193,13 +220,13 @@ module _ {A : Type 0} {root : Root A} {sort : ℕ} (r : RootOf root sort) (s : L
           small-values = values;
         };
         in-range = record { values = values; sizes = fit; texts = h .well };
-        short = rw (← (short-texts es)) (and-left (shortIn temporalWords 64 es) _ (rw (← (r .short a most)) at texts));
-        entries-fit = leb→le (length es + 3 * tally 2 es) 1024 (and-right (shortIn temporalWords 64 es) entries (rw (← (r .short a most)) at texts));
+        short = and-left (root .texts es) entries texts;
+        entries-fit = leb→le (length es + 3 * tally 2 es) 1024 (and-right (root .texts es) entries texts);
         depths = subst (λ (w : ℕ → ℕ). T (fitsDepths (root .deep (orWeight nodeWeight) a) (root .deep w a))) or-calls (and-left depths _ rest);
         few = and-right depths _ rest;
       }
 
-  pub accepted-root : (l : Layout) → acceptOf s sort ≡ Tape l → (a : A) × Accepted root s l a
+  pub accepted-root : (l : Layout) → acceptNamed longest s sort ≡ Tape l → (a : A) × Accepted root s l a
   unfolding weighted
   accepted-root l e = go (answers r s) e refl
     where

@@ -36,6 +36,10 @@ afterOpen g longest s sort (Refused n) = Refused n
 abbrev pub acceptBy : List ℕ → ℕ → List ℕ → ℕ → Opened
 acceptBy g longest s sort = afterOpen g longest s sort (openOf s)
 
--- by the table of document 01, where 64 bytes are the most
+-- by the table of document 01
+abbrev pub acceptNamed : ℕ → List ℕ → ℕ → Opened
+acceptNamed longest s sort = acceptBy temporalWords longest s sort
+
+-- where 64 bytes are the most
 abbrev pub acceptOf : List ℕ → ℕ → Opened
-acceptOf s sort = acceptBy temporalWords 64 s sort
+acceptOf s sort = acceptNamed 64 s sort

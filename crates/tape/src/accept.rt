@@ -8,15 +8,22 @@ use crate::scan::Scanned;
 use crate::scan::scan;
 use grammar::codes::table;
 ghost use mathlib.Core.Path.{_≡_};
-ghost use Rattle.tape.specs.Accept.{acceptBy, acceptIn, acceptOf, judged};
+ghost use Rattle.tape.specs.Accept.{acceptBy, acceptIn, acceptNamed, acceptOf, judged};
 
 // The layout of a tape whose root is of a sort and which passes no largest figure of an input, nor once its Ors are rewritten, or the
 // refusal's number. The longest text has 64 bytes, names too.
 pub fn accept(s: &[u8], sort: u64) -> Opened
     ensures { λ r. ⌜ r ≡ acceptOf (now (s .entry)) sort ⌝ }
 {
+    accept_named(64, s, sort)
+}
+
+// The same with the longest text of a name, which is not 0.
+pub fn accept_named(longest: u64, s: &[u8], sort: u64) -> Opened
+    ensures { λ r. ⌜ r ≡ acceptNamed longest (now (s .entry)) sort ⌝ }
+{
     let grammar = table();
-    accept_by(&grammar, 64, s, sort)
+    accept_by(&grammar, longest, s, sort)
 }
 
 // The same by any table, with the longest text of a name.
