@@ -3,8 +3,19 @@
 
 use std::path::Path;
 
-const OPERATIONS: [&str; 10] =
-    ["check", "registry", "substitute", "expand", "preview", "check_library", "check_at", "merge", "older", "profile"];
+const OPERATIONS: [&str; 11] = [
+    "check",
+    "registry",
+    "substitute",
+    "expand",
+    "preview",
+    "check_library",
+    "check_at",
+    "judge",
+    "merge",
+    "older",
+    "profile",
+];
 
 fn main() {
     println!("cargo::rerun-if-changed=build.rs");

@@ -84,6 +84,7 @@ enum {
     NEUKOLJA_NOT_AN_IDENTIFIER = 46,
     NEUKOLJA_NOT_A_PREDICATE = 47,      /* fields are given to what is no predicate */
     NEUKOLJA_CALL_MET_IN_BODY = 48,
+    NEUKOLJA_NOT_EQUAL = 50,            /* judging alone: the supplied tape is not our result */
     NEUKOLJA_DEFINITIONS_DIFFER = 51,   /* merge alone: a name that both registries have is defined otherwise in
                                            the second */
     NEUKOLJA_OUT_OF_RANGE = 52,         /* the older tape alone: seven times an amount of weeks has no 64 bits */
@@ -176,6 +177,26 @@ void neukolja_preview(const uint8_t *registry, size_t registry_length,
 void neukolja_merge(const uint8_t *first, size_t first_length,
                     const uint8_t *second, size_t second_length,
                     uint8_t *result, size_t result_length,
+                    uint8_t *message, size_t message_length,
+                    uint64_t answer[5]);
+
+/* The other supplier's result, judged: `supplied` is a condition's tape, in which the names of variables and slots (27, 43) may have
+ * 75 bytes, or 81 with a file number above 0. Our own expansion is made of registry, condition, `limit` and `file`, as by
+ * neukolja_expand, and the two trees are compared, spans included. The answer is 0, "equal", exactly if a one-to-one renaming takes
+ * our tree to the supplied one that touches only names generated from `$` binders: a name that stands as a variable or a slot in the
+ * condition or in any definition, called or not, stays as it is, and no other becomes such a one. So the supplier may spell
+ * generated names as it likes.
+ * The tapes are read in the order given, then 10 and 11, then the refusals of neukolja_expand, and NEUKOLJA_NOT_EQUAL, with the span
+ * 0..0 and no message, comes last. What is charged is what neukolja_expand charges, with NEUKOLJA_NOT_EQUAL too.
+ * result:  our tape, then zeros to the end; all zeros on a refusal.
+ * work:    all zeros afterwards.
+ * message: the message of a refusal, then zeros to the end; all zeros on success. */
+void neukolja_judge(const uint8_t *registry, size_t registry_length,
+                    const uint8_t *condition, size_t condition_length,
+                    const uint8_t *supplied, size_t supplied_length,
+                    uint32_t limit, uint16_t file,
+                    uint8_t *result, size_t result_length,
+                    uint8_t *work, size_t work_length,
                     uint8_t *message, size_t message_length,
                     uint64_t answer[5]);
 

@@ -30,6 +30,7 @@ fn deepest() -> Vec<(&'static str, Case)> {
         all.push((body, Case::new(Operation::Merge, 0, vec![registry(left), registry(left)])));
         all.push((body, Case::new(Operation::Older, 0, vec![registry(left)])));
         let deep = encode(&deep_rule(left));
+        all.push((rule, Case::new(Operation::Judge, u32::MAX, vec![registry(left), deep.clone(), deep.clone()])));
         all.push((rule, Case::new(Operation::Profile, 0, vec![deep.clone()])));
         for operation in [Operation::Expand, Operation::Preview] {
             all.push((rule, Case::new(operation, u32::MAX, vec![registry(left), deep.clone()])));

@@ -56,6 +56,13 @@ mod functions {
             registry: *const u8, registry_len: usize, index: u32, message: *mut u8, message_len: usize,
             answer: *mut [u64; 5],
         );
+        #[cfg(archive_has = "judge")]
+        fn neukolja_judge(
+            registry: *const u8, registry_len: usize, condition: *const u8, condition_len: usize,
+            supplied: *const u8, supplied_len: usize, limit: u32, file: u16,
+            result: *mut u8, result_len: usize, work: *mut u8, work_len: usize, message: *mut u8, message_len: usize,
+            answer: *mut [u64; 5],
+        );
         #[cfg(archive_has = "merge")]
         fn neukolja_merge(
             first: *const u8, first_len: usize, second: *const u8, second_len: usize,
@@ -81,6 +88,7 @@ mod functions {
                 Operation::Preview => cfg!(archive_has = "preview"),
                 Operation::CheckLibrary => cfg!(archive_has = "check_library"),
                 Operation::CheckAt => cfg!(archive_has = "check_at"),
+                Operation::Judge => cfg!(archive_has = "judge"),
                 Operation::Merge => cfg!(archive_has = "merge"),
                 Operation::Older => cfg!(archive_has = "older"),
                 Operation::Profile => cfg!(archive_has = "profile"),
@@ -91,7 +99,7 @@ mod functions {
         fn run(&mut self, case: &Case, lent: Lent) {
             let (a, limit) = (&case.tapes[0], case.limit);
             #[allow(unused_variables)]
-            let b = case.tapes.get(1).map_or(&[][..], Vec::as_slice);
+            let [b, c] = [1, 2].map(|i| case.tapes.get(i).map_or(&[][..], Vec::as_slice));
             #[allow(unused_variables)]
             let Lent { result: r, work: w, message: m, counts, answer: words } = lent;
             #[allow(unused_variables)]
@@ -128,6 +136,11 @@ mod functions {
                     Operation::CheckAt => {
                         neukolja_check_at(a.as_ptr(), a.len(), case.index, m.as_mut_ptr(), m.len(), answer)
                     }
+                    #[cfg(archive_has = "judge")]
+                    Operation::Judge => neukolja_judge(
+                        a.as_ptr(), a.len(), b.as_ptr(), b.len(), c.as_ptr(), c.len(), limit, case.file,
+                        r.as_mut_ptr(), r.len(), w.as_mut_ptr(), w.len(), m.as_mut_ptr(), m.len(), answer,
+                    ),
                     #[cfg(archive_has = "merge")]
                     Operation::Merge => neukolja_merge(
                         a.as_ptr(), a.len(), b.as_ptr(), b.len(),

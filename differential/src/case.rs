@@ -11,12 +11,13 @@ pub enum Operation {
     Preview,
     CheckLibrary,
     CheckAt,
+    Judge,
     Merge,
     Older,
     Profile,
 }
 
-pub const OPERATIONS: [Operation; 10] = [
+pub const OPERATIONS: [Operation; 11] = [
     Operation::Check,
     Operation::Registry,
     Operation::Substitute,
@@ -24,6 +25,7 @@ pub const OPERATIONS: [Operation; 10] = [
     Operation::Preview,
     Operation::CheckLibrary,
     Operation::CheckAt,
+    Operation::Judge,
     Operation::Merge,
     Operation::Older,
     Operation::Profile,
@@ -39,6 +41,7 @@ impl Operation {
             Operation::Preview => "preview",
             Operation::CheckLibrary => "check_library",
             Operation::CheckAt => "check_at",
+            Operation::Judge => "judge",
             Operation::Merge => "merge",
             Operation::Older => "older",
             Operation::Profile => "profile",
@@ -55,6 +58,7 @@ impl Operation {
             Operation::Preview => 5,
             Operation::CheckLibrary => 6,
             Operation::CheckAt => 7,
+            Operation::Judge => 8,
             Operation::Merge => 9,
             Operation::Older => 10,
             Operation::Profile => 11,
@@ -68,16 +72,18 @@ impl Operation {
             Operation::Registry | Operation::CheckLibrary | Operation::CheckAt => &[Sort::Definitions],
             Operation::Substitute => &[Sort::Definition, Sort::Call],
             Operation::Expand | Operation::Preview => &[Sort::Definitions, Sort::Condition],
+            Operation::Judge => &[Sort::Definitions, Sort::Condition, Sort::Condition],
             Operation::Merge => &[Sort::Definitions, Sort::Definitions],
             Operation::Older => &[Sort::Any],
             Operation::Profile => &[Sort::Condition],
         }
     }
 
-    /// The longest name, a text of 27 or 43, that its tapes may have.
-    pub fn longest_name(self) -> usize {
-        match self {
-            Operation::Profile => 81,
+    /// The longest name, a text of 27 or 43, that one of its tapes may have: a generated one, where it may hold such.
+    pub fn longest_name(self, tape: usize, file: u16) -> usize {
+        match (self, tape) {
+            (Operation::Judge, 2) if file == 0 => 75,
+            (Operation::Judge, 2) | (Operation::Profile, _) => 81,
             _ => LARGEST_TEXT,
         }
     }
@@ -87,7 +93,7 @@ impl Operation {
         match self {
             Operation::Check | Operation::Registry | Operation::CheckAt => [0, 0, LEAST_MESSAGE],
             Operation::CheckLibrary | Operation::Merge => [LEAST_RESULT, 0, LEAST_MESSAGE],
-            Operation::Substitute | Operation::Expand => [LEAST_RESULT, LEAST_WORK, LEAST_MESSAGE],
+            Operation::Substitute | Operation::Expand | Operation::Judge => [LEAST_RESULT, LEAST_WORK, LEAST_MESSAGE],
             Operation::Preview => [0, LEAST_WORK, LEAST_MESSAGE],
             Operation::Older => [LEAST_RESULT, 0, 0],
             Operation::Profile => [0; 3],
@@ -101,7 +107,7 @@ impl Operation {
 
     /// Whether the operation walks a body, with a limit for what is charged.
     pub fn charges(self) -> bool {
-        matches!(self, Operation::Substitute | Operation::Expand | Operation::Preview)
+        matches!(self, Operation::Substitute | Operation::Expand | Operation::Preview | Operation::Judge)
     }
 }
 

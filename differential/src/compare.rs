@@ -1,6 +1,7 @@
 //! The three that are compared: the model, upstream, and a machine (the archive, or the model behind the same calls).
 
 use crate::case::{Answer, COUNTS, Case, Counts, Operation, Words};
+use crate::judge::{self, Names};
 use crate::model::{self, Notes, TooLarge};
 use crate::profile;
 use crate::tape::{self, LARGEST, LARGEST_TEXT, Node, Sort};
@@ -76,6 +77,14 @@ fn hear_upstream(case: &Case, answer: &Answer, notes: &Notes) -> Result<Witness,
     if case.operation == Operation::Merge {
         return hear_of_merge(&trees, answer, notes);
     }
+    if let (Some(ours), [definitions, condition, supplied]) = (&notes.ours, &notes.trees[..]) {
+        let protected = judge::names([definitions, condition]);
+        let [numbered, theirs] = [ours, supplied].map(|tree| judge::numbered(tree, &protected));
+        same("yes or no", &(numbered == theirs), &(answer.number == 0))?;
+        let generated = upstream::generated_names(&trees[0], &trees[1], case.file);
+        let unprotected: Names = judge::names([ours]).difference(&protected).cloned().collect();
+        same("names that were not generated", &unprotected.difference(&generated).count(), &0)?;
+    }
     let run = |reach: Reach| {
         let others: Vec<Node> = trees.iter().map(upstream::with_other_starts).collect();
         upstream::lengthened(run(case, &trees, reach), || run(case, &others, reach), case.file)
@@ -119,6 +128,7 @@ fn run(case: &Case, trees: &[Node], reach: Reach) -> Run {
         (Operation::Expand | Operation::Preview, [definitions, condition]) => {
             upstream::expand(definitions, condition, reach)
         }
+        (Operation::Judge, [definitions, condition, _]) => upstream::expand(definitions, condition, reach),
         _ => unreachable!("all tapes were read"),
     }
 }
@@ -206,8 +216,10 @@ fn agrees(run: &Run, answer: &Answer, notes: &Notes) -> Result<(), String> {
             same("the list", list, &answer.result)
         }
         End::Tree(tree) => {
-            same("the number", &0, &answer.number)?;
-            same("the tree", &Some(tree), &notes.result.as_ref().map(tape::weeks_as_days).as_ref())
+            let number = if answer.number == 50 { 0 } else { answer.number };
+            same("the number", &0, &number)?;
+            let ours = notes.ours.as_ref().or(notes.result.as_ref());
+            same("the tree", &Some(tree), &ours.map(tape::weeks_as_days).as_ref())
         }
         End::Refused { number, span, message } => {
             same("the number", number, &answer.number)?;

@@ -3,6 +3,7 @@
 use crate::brim::{self, FIGURES, Figure};
 use crate::case::{Case, Counts, OPERATIONS, Operation};
 use crate::damage::damage;
+use crate::judge;
 use crate::merge;
 use crate::model::{self, Walk};
 use crate::profile;
@@ -13,7 +14,7 @@ use crate::trees::{DEPTH, Ground, MOST_DEFINITIONS, Macro, Style, Trees};
 
 /// The operation of a case is drawn first.
 fn draw(random: &mut Random) -> Operation {
-    OPERATIONS[random.weighted(&[11, 6, 25, 30, 5, 4, 3, 7, 4, 5])]
+    OPERATIONS[random.weighted(&[10, 6, 23, 27, 5, 4, 3, 8, 6, 4, 4])]
 }
 
 pub fn operation(seed: u64, index: u64) -> Operation {
@@ -94,7 +95,11 @@ fn input(random: &mut Random, operation: Operation) -> Input {
             let second = Some(g.call_of(&called, ground, DEPTH));
             Input { first, second }
         }
-        Operation::Expand | Operation::Preview => {
+        Operation::Expand | Operation::Preview | Operation::Judge => {
+            if operation == Operation::Judge && g.random.chance(60) {
+                // So that there is something to judge.
+                (g.style.stray, g.style.wrong) = (0, 0);
+            }
             let first = a_registry(g);
             g.fuel = fuel(g.random);
             Input { first, second: Some(g.condition(Ground::Entered, DEPTH)) }
@@ -185,7 +190,7 @@ fn at_a_limit(random: &mut Random, operation: Operation) -> Input {
     let tree = if first { &mut input.first } else { input.second.as_mut().expect("there is one") };
     match random.weighted(&[50, 20, 10, 20]) {
         0 => grow_a_tape(random, tree),
-        1 => brim::stretch_a_text(random, tree, operation.longest_name()),
+        1 => brim::stretch_a_text(random, tree, operation.longest_name(0, 0)),
         2 => many_parameters(random, &mut input),
         _ => many_calls(random, &mut input, operation),
     }
@@ -281,7 +286,7 @@ fn many_calls(random: &mut Random, input: &mut Input, operation: Operation) {
     let condition = Node::new(11, tape::span(1, 2), vec![calls.clone()]);
     match operation {
         Operation::Substitute => input.second = Some(calls),
-        Operation::Expand | Operation::Preview => input.second = Some(condition),
+        Operation::Expand | Operation::Preview | Operation::Judge => input.second = Some(condition),
         Operation::Profile => input.first = condition,
         Operation::Older => input.first = if random.chance(50) { calls } else { condition },
         // A body with calls is accepted, and refused by its check.
@@ -319,7 +324,7 @@ fn result_at_a_limit(random: &mut Random, operation: Operation, file: u16) -> In
             }
             input
         }
-        Operation::Expand | Operation::Preview => expansion_at_a_limit(random, figure, file),
+        Operation::Expand | Operation::Preview | Operation::Judge => expansion_at_a_limit(random, figure, file),
     }
 }
 
@@ -479,7 +484,14 @@ fn unused_argument(condition: &mut Node, is_value: bool) -> &mut Node {
 fn on_tapes(random: &mut Random, operation: Operation, file: u16, input: &Input) -> Case {
     let tapes = [Some(&input.first), input.second.as_ref()].into_iter().flatten().map(tape::encode).collect();
     let limit_if_any = if operation.charges() { u32::MAX } else { 0 };
-    let mut case = Case { file, ..Case::new(operation, limit_if_any, tapes) };
+    // What is judged is an expansion first.
+    let walked = if operation == Operation::Judge { Operation::Expand } else { operation };
+    let mut case = Case { file, ..Case::new(walked, limit_if_any, tapes) };
+    if operation == Operation::Judge {
+        let supplied = supplied(random, input, &case);
+        case.tapes.push(tape::encode(&supplied));
+        (case.operation, case.sizes) = (operation, operation.buffers());
+    }
     if operation.has_counts() {
         case.counts = counts(random);
     }
@@ -495,6 +507,20 @@ fn on_tapes(random: &mut Random, operation: Operation, file: u16, input: &Input)
         case.limit = limit(random, model::answer(&case).0.charged as usize) as u32;
     }
     case
+}
+
+/// The third tape of a case of which this is the expansion, now and then at a limit.
+fn supplied(random: &mut Random, input: &Input, expansion: &Case) -> Node {
+    let (registry, condition) = (&input.first, input.second.as_ref().expect("a condition"));
+    let ours = model::answer(expansion).1.result;
+    let longest = Operation::Judge.longest_name(2, expansion.file);
+    let mut supplied = judge::supplied(&mut trees(random), registry, condition, ours.as_ref(), longest);
+    match random.weighted(&[92, 4, 4]) {
+        0 => {}
+        1 => grow_a_tape(random, &mut supplied),
+        _ => brim::stretch_a_text(random, &mut supplied, longest),
+    }
+    supplied
 }
 
 /// A registry state: just built, after some calls, close to what a count can hold, anything.

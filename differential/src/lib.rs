@@ -7,6 +7,7 @@ pub mod case;
 pub mod compare;
 pub mod damage;
 pub mod generate;
+pub mod judge;
 pub mod merge;
 pub mod message;
 pub mod model;

@@ -142,8 +142,8 @@ fn show(seed: u64, index: u64) -> bool {
     let case = generate::case(seed, index);
     println!("{}, limit {}, file {}, index {}", case.operation.name(), case.limit, case.file, case.index);
     println!("result, work and message buffer: {:?}", case.sizes);
-    for (bytes, root) in case.tapes.iter().zip(case.operation.roots()) {
-        match tape::accept(bytes, *root, case.operation.longest_name()) {
+    for (i, (bytes, root)) in case.tapes.iter().zip(case.operation.roots()).enumerate() {
+        match tape::accept(bytes, *root, case.operation.longest_name(i, case.file)) {
             Ok(tree) => print_tree(&tree, 0),
             Err(why) => println!("{why:?}: {bytes:02X?}"),
         }

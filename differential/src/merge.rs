@@ -58,7 +58,8 @@ pub fn second(g: &mut Trees, first: &Node) -> Node {
             _ => copy = tape::withdrawn(&copy),
         }
         if g.random.chance(changes) {
-            change(g, &mut copy);
+            // Behind the definition and its name.
+            g.change_an_entry(&mut copy, 2);
         }
         all.push(copy);
     }
@@ -85,35 +86,4 @@ fn other_spans(g: &mut Trees, node: &mut Node) {
         node.value = g.span();
     }
     node.children.iter_mut().for_each(|child| other_spans(g, child));
-}
-
-/// Changes one entry behind the definition's name.
-fn change(g: &mut Trees, definition: &mut Node) {
-    let entries = tape::measure(definition).entries;
-    let mut place = 2 + g.random.below(entries - 2);
-    change_at(g, definition, &mut place);
-}
-
-fn change_at(g: &mut Trees, node: &mut Node, place: &mut usize) -> bool {
-    if *place > 0 {
-        *place -= 1;
-        return node.children.iter_mut().any(|child| change_at(g, child, place));
-    }
-    match tape::value(node.code) {
-        Value::TextLength => *node = Node::with_text(node.code, &g.name()),
-        Value::Any if (48..=51).contains(&node.code) => node.code = 48 + (node.code - 47) % 4,
-        Value::Any => node.value = node.value.wrapping_add(1),
-        Value::Below(end) => node.value = (node.value + 1) % end,
-        Value::Span => node.value = g.span(),
-        Value::Count if node.value > 0 => {
-            // The last item goes.
-            let width = node.children.len() / node.value as usize;
-            node.children.truncate(node.children.len() - width);
-            node.value -= 1;
-        }
-        Value::Zero if node.code == 28 => *node = Node::new(24, 1, vec![]),
-        Value::Zero if node.code == 61 => *node = Node::new(63, 0, vec![Node::new(28, 0, vec![])]),
-        Value::Zero | Value::Count => {}
-    }
-    true
 }

@@ -4,6 +4,7 @@
 //! limit can end a walk anywhere, the walks are here too; wherever no limit comes, upstream has to agree with them.
 
 use crate::case::{Answer, COUNTS, Case, Operation, Words};
+use crate::judge;
 use crate::merge;
 use crate::message;
 use crate::profile::profile;
@@ -49,6 +50,9 @@ pub struct Notes {
     pub given: Vec<Node>,
     pub trees: Vec<Node>,
     pub result: Option<Node>,
+    /// Our own result, where another one was compared with it, and what was found.
+    pub ours: Option<Node>,
+    pub judged: Option<&'static str>,
     pub too_large: Option<TooLarge>,
     /// How many charges were made.
     pub charges: usize,
@@ -156,8 +160,8 @@ fn operate(case: &Case, walk: &mut Walk, notes: &mut Notes) -> Result<Made, Refu
         return refuse(1, 0, String::new());
     }
     let (mut given, mut trees) = (Vec::new(), Vec::new());
-    for (bytes, root) in case.tapes.iter().zip(case.operation.roots()) {
-        let longest_name = case.operation.longest_name();
+    for (i, (bytes, root)) in case.tapes.iter().zip(case.operation.roots()).enumerate() {
+        let longest_name = case.operation.longest_name(i, case.file);
         let (as_given, rewritten) = read(bytes, *root, longest_name).map_err(|unread| refusal_of(unread, notes))?;
         given.push(as_given);
         trees.push(rewritten);
@@ -179,6 +183,22 @@ fn operate(case: &Case, walk: &mut Walk, notes: &mut Notes) -> Result<Made, Refu
         (Operation::Expand | Operation::Preview, [definitions, condition]) => {
             registry(definitions)?;
             walk.expand_whole(definitions, condition).map(Made::Tree)
+        }
+        (Operation::Judge, [definitions, condition, supplied]) => {
+            registry(definitions)?;
+            let ours = walk.expand_whole(definitions, condition)?;
+            notes.ours = Some(ours.clone());
+            let inputs = [definitions, condition];
+            match judge::difference(&ours, supplied, &judge::names(inputs)) {
+                Some((why, code)) => {
+                    notes.judged = Some(why);
+                    refuse_for((code, 0), 50, 0, String::new())
+                }
+                None => {
+                    notes.judged = Some(judge::kind_of_yes(&ours, supplied, &judge::other_texts(inputs)));
+                    Ok(Made::Tree(ours))
+                }
+            }
         }
         (Operation::Merge, [first, second]) => {
             registry(first)?;

@@ -4,6 +4,7 @@ use crate::bench_cases;
 use crate::case::{Answer, COUNTS, Case, Counts, Operation};
 use crate::compare;
 use crate::generate;
+use crate::judge;
 use crate::model::{self, Notes};
 use crate::places::{self, Place};
 use crate::tally;
@@ -92,6 +93,8 @@ enum Shows {
     Aggregate(u64, u64),
     /// A name of so many bytes on an accepted tape.
     Name(usize),
+    /// Why it is yes or no, for a file above 0 or not.
+    Judged(&'static str, bool),
     /// Something about the counts.
     Counts(&'static str),
     /// Exactly the limit was charged.
@@ -101,9 +104,10 @@ enum Shows {
 }
 
 impl Shows {
-    /// What of it a preview is to show for itself: the walk is expansion's, and shown there.
-    fn of_preview(self) -> Option<Shows> {
+    /// What of it preview and judge are to show for themselves: the walk is expansion's, and shown there.
+    fn above_expansion(self) -> Option<Shows> {
         match self {
+            Shows::Number(50, ..) | Shows::Judged(..) | Shows::Name(_) => Some(self),
             Shows::Number(number, ..) => Some(Shows::Number(number, 0, 0)),
             Shows::Reason(1, _) | Shows::AtALimit("whole", "entries" | "text") | Shows::LongBuffers(_) => Some(self),
             Shows::Tapes { .. } | Shows::Names { .. } | Shows::WholeBudget => Some(self),
@@ -143,8 +147,8 @@ impl Candidate {
             _ => case.operation.number(),
         };
         let mut shows = shows(&case, &answer, &notes);
-        if case.operation == Operation::Preview {
-            shows = shows.into_iter().filter_map(Shows::of_preview).collect();
+        if let Operation::Preview | Operation::Judge = case.operation {
+            shows = shows.into_iter().filter_map(Shows::above_expansion).collect();
         }
         let shows = shows.into_iter().map(|s| (operation(&s), s)).collect();
         Ok(Candidate { case, answer, shows })
@@ -262,6 +266,11 @@ fn shows(case: &Case, answer: &Answer, notes: &Notes) -> Vec<Shows> {
     if let (Operation::Merge, [first, second], Some(merged)) = (case.operation, &notes.given[..], &notes.result) {
         all.push(Shows::Merged(kept_once(first, second), merged.children.len() > first.children.len()));
     }
+    if notes.ours.is_some() {
+        all.extend(notes.judged.map(|why| Shows::Judged(why, case.file > 0)));
+        let long = judge::names(&notes.given[2..]).into_iter().map(|name| name.len()).filter(|n| *n > LARGEST_TEXT);
+        all.extend(long.map(Shows::Name));
+    }
     if case.operation == Operation::CheckAt
         && let [definitions] = &notes.given[..]
     {
@@ -309,11 +318,11 @@ fn of_refusals(case: &Case, answer: &Answer, notes: &Notes) -> Vec<Shows> {
         }
         all.push(Shows::Reason(number, reason));
     }
-    let read = |(bytes, root): (&Vec<u8>, &Sort)| {
-        model::read(bytes, *root, case.operation.longest_name()).map_or_else(number_of, |_| 0)
+    let read = |(i, (bytes, root)): (usize, (&Vec<u8>, &Sort))| {
+        model::read(bytes, *root, case.operation.longest_name(i, case.file)).map_or_else(number_of, |_| 0)
     };
-    let tapes: Vec<u64> = case.tapes.iter().zip(case.operation.roots()).map(read).collect();
-    if matches!(case.operation, Operation::Expand | Operation::Preview)
+    let tapes: Vec<u64> = case.tapes.iter().zip(case.operation.roots()).enumerate().map(read).collect();
+    if matches!(case.operation, Operation::Expand | Operation::Preview | Operation::Judge)
         && let Ok(definitions) = tape::accept(&case.tapes[0], Sort::Definitions, LARGEST_TEXT)
     {
         let names = model::registry(&definitions).map_or_else(|refusal| refusal.number, |()| 0);

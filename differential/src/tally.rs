@@ -15,6 +15,7 @@ pub fn possible(operation: Operation) -> Vec<u64> {
         Operation::CheckAt => vec![0, 1, 2, 3, 10, 11, 20, 21, 22],
         Operation::Substitute => [vec![0, 1, 2, 3, 31, 34, 35], (41..=48).collect()].concat(),
         Operation::Expand | Operation::Preview => [vec![0, 1, 2, 3, 10, 11], (30..=48).collect()].concat(),
+        Operation::Judge => [vec![0, 1, 2, 3, 10, 11, 50], (30..=48).collect()].concat(),
         Operation::Merge => vec![0, 1, 2, 3, 10, 11, 51],
         Operation::Older => vec![0, 1, 2, 3, 52],
         Operation::Profile => vec![0, 2, 3, 53, 54, 55],
@@ -26,6 +27,7 @@ pub struct Tally {
     numbers: BTreeMap<(u64, Operation), u64>,
     reasons: BTreeMap<(u64, String), u64>,
     witnesses: BTreeMap<Witness, u64>,
+    judged: BTreeMap<(u64, &'static str), u64>,
     places: BTreeMap<Operation, BTreeSet<Place>>,
     /// How many texts have a character of so many bytes: of accepted tapes, of results, and messages.
     characters: BTreeMap<(&'static str, usize), u64>,
@@ -40,6 +42,9 @@ impl Tally {
     pub fn add(&mut self, case: &Case, answer: &Answer, notes: &Notes, witness: Witness) {
         *self.numbers.entry((answer.number, case.operation)).or_default() += 1;
         *self.witnesses.entry(witness).or_default() += 1;
+        if let Some(why) = notes.judged {
+            *self.judged.entry((answer.number, why)).or_default() += 1;
+        }
         if let Some(reason) = reason(answer, notes) {
             *self.reasons.entry((answer.number, reason)).or_default() += 1;
         }
@@ -92,6 +97,10 @@ impl Tally {
         println!("why 1, 2 and 3:");
         for ((number, reason), count) in &self.reasons {
             println!("{count:>10} {number} {reason}");
+        }
+        println!("why a judge says 0 or 50:");
+        for ((number, why), count) in &self.judged {
+            println!("{count:>10} {number} {why}");
         }
         println!("who stands behind the answers:");
         for (witness, text) in WITNESSES {

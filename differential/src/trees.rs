@@ -2,7 +2,7 @@
 
 use crate::profile;
 use crate::random::Random;
-use crate::tape::{self, LARGEST, Node};
+use crate::tape::{self, LARGEST, Node, Value};
 use crate::texts;
 
 /// How a parameter is meant to be used.
@@ -599,5 +599,38 @@ impl Trees<'_> {
     fn cedar_definition(&mut self, name: Vec<u8>) -> (Node, Macro) {
         let parts = vec![Node::with_text(40, &name), Node::counted(41, 2, vec![]), Node::new(61, 0, vec![])];
         (Node::new(60, self.span(), parts), Macro { name, uses: vec![], body: 61 })
+    }
+
+    // -------------------------------------------------------------- changes
+
+    /// Changes one entry of a tree, not one of the first few.
+    pub fn change_an_entry(&mut self, tree: &mut Node, first: usize) {
+        let entries = tape::measure(tree).entries;
+        let mut place = first + self.random.below(entries - first);
+        self.change_at(tree, &mut place);
+    }
+
+    fn change_at(&mut self, node: &mut Node, place: &mut usize) -> bool {
+        if *place > 0 {
+            *place -= 1;
+            return node.children.iter_mut().any(|child| self.change_at(child, place));
+        }
+        match tape::value(node.code) {
+            Value::TextLength => *node = Node::with_text(node.code, &self.name()),
+            Value::Any if (48..=51).contains(&node.code) => node.code = 48 + (node.code - 47) % 4,
+            Value::Any => node.value = node.value.wrapping_add(1),
+            Value::Below(end) => node.value = (node.value + 1) % end,
+            Value::Span => node.value = self.span(),
+            Value::Count if node.value > 0 => {
+                // The last item goes.
+                let width = node.children.len() / node.value as usize;
+                node.children.truncate(node.children.len() - width);
+                node.value -= 1;
+            }
+            Value::Zero if node.code == 28 => *node = Node::new(24, 1, vec![]),
+            Value::Zero if node.code == 61 => *node = Node::new(63, 0, vec![Node::new(28, 0, vec![])]),
+            Value::Zero | Value::Count => {}
+        }
+        true
     }
 }

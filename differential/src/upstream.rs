@@ -1,5 +1,6 @@
 //! Upstream's answer: trees of a tape as upstream's trees, upstream's functions run on them, and their trees back.
 
+use crate::judge::Names;
 use crate::message;
 use crate::model;
 use crate::tape::{self, Node};
@@ -113,8 +114,28 @@ pub fn lengthened(run: Run, other: impl FnOnce() -> Run, file: u16) -> Run {
     }
 }
 
+/// Whether a name of a result was generated, by what stands there in the result from other starts.
+fn is_generated(node: &Node, other: &Node) -> bool {
+    matches!(node.code, 27 | 43) && node.text != other.text
+}
+
+/// The names that an expansion which succeeds generates and keeps.
+pub fn generated_names(definitions: &Node, condition: &Node, file: u16) -> Names {
+    let run = |definitions: &Node, condition: &Node| expand(definitions, condition, Reach::limit(usize::MAX)).end;
+    let others = [definitions, condition].map(with_other_starts);
+    let (End::Tree(tree), End::Tree(other)) = (run(definitions, condition), run(&others[0], &others[1])) else {
+        unreachable!("it succeeds")
+    };
+    let [mut ours, mut others] = [Vec::new(), Vec::new()];
+    tree.visit(&mut |node| ours.push(node));
+    other.visit(&mut |node| others.push(node));
+    let end = if file == 0 { String::new() } else { format!("#{file}") };
+    let generated = ours.iter().zip(&others).filter(|(node, other)| is_generated(node, other));
+    generated.map(|(node, _)| [&node.text, end.as_bytes()].concat()).collect()
+}
+
 fn lengthen(node: &Node, other: &Node, file: u16) -> Node {
-    if matches!(node.code, 27 | 43) && node.text != other.text {
+    if is_generated(node, other) {
         let end = format!("#{file}");
         return Node::with_text(node.code, &[&node.text, end.as_bytes()].concat());
     }

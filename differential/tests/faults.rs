@@ -54,7 +54,7 @@ fn the_model_itself_passes() {
 
 #[test]
 fn wrong_answers_are_noticed() {
-    let changes: [(&str, Change); 17] = [
+    let changes: [(&str, Change); 19] = [
         ("refuses each call", |case, answer| {
             if case.operation.charges() && answer.charged > 0 {
                 *answer = Answer { number: 30, ..Answer::success(case.counts) };
@@ -110,6 +110,16 @@ fn wrong_answers_are_noticed() {
         ("gives the first one's span for 51", |case, answer| {
             if case.operation == Operation::Merge && answer.number == 51 {
                 (answer.start, answer.end) = (answer.end, answer.start);
+            }
+        }),
+        ("says yes to everything", |_, answer| {
+            if answer.number == 50 {
+                answer.number = 0;
+            }
+        }),
+        ("gives the supplied tape as result", |case, answer| {
+            if case.operation == Operation::Judge && answer.number == 0 {
+                answer.result = case.tapes[2].clone();
             }
         }),
         ("counts on a refusal", |case, answer| {

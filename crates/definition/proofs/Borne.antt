@@ -5,7 +5,7 @@ use Prim.Native.Nat.{ℕ}
 use mathlib.Core.Path.{_≡_}
 use mathlib.Core.List.{List, [], _∷_}
 use mathlib.Core.Bool.{false}
-use Rattle.format.specs.Entry.{Text, Entry}
+use Rattle.format.specs.Entry.{Entry}
 use Rattle.format.specs.Ast.{Condition, Call, Tree, MacroDef}
 use Rattle.format.specs.Flat.{flatCondition, flatCall, flatTree, flatDef}
 use Rattle.format.specs.Limits.{tooLargeTree}
@@ -15,29 +15,33 @@ use Rattle.definition.specs.Substitute.{substitute}
 use Rattle.definition.specs.Expand.{expand}
 use Rattle.definition.proofs.Good.{Good, good-done, good-refused}
 use Rattle.definition.proofs.Verdicts.{Any, all-any}
-use Rattle.definition.proofs.Rules.{Closed, closed-texts, Rules, Any-number, Unasked, AnswersRefusal, Known, Fits, Each, Bears, rules-of, known-each, bears, refuses-build}
+use Rattle.definition.proofs.Rules.{Closed, closed-texts, Rules, Any-number, Unasked, AnswersRefusal, Known, Fits, Bears, rules-of, known-each, bears, refuses-build}
 use Rattle.definition.proofs.SaidSubstitute.{said-substitute}
 use Rattle.definition.proofs.SaidExpand.{said-expand}
 
-module _ {M : ℕ → Text → Type 0} (limit file : ℕ) (closed : Closed Any M file) where
-  pub substitute-bears : (def : MacroDef) (call : Call) → Each M (flatDef def) → Each M (flatCall call)
+module _ {B I M : Entry → Type 0} (limit file : ℕ) (closed : Closed Any B I M file) where
+  pub substitute-bears : (def : MacroDef) (call : Call) → All M (flatDef def) → All B (flatDef def) → All M (flatCall call) → All I (flatCall call)
       → Bears M flatTree (substitute limit file def call)
-  substitute-bears def call d c = bears M (said-substitute (rules-of limit closed) def (known-each M d) call (known-each M c))
+  substitute-bears def call d b c i = bears M (said-substitute (rules-of limit closed) def (known-each M B d b) call (known-each M I c i))
 
-  pub expand-bears : (defs : List MacroDef) → All (λ (d : MacroDef). Each M (flatDef d)) defs → (c : Condition) → Each M (flatCondition c)
-      → Bears M flatTree (expand limit file defs c)
-  expand-bears defs d c k =
-      bears M (said-expand defs limit file (rules-of limit closed) (all-map (λ x h. known-each M h) d) (refuses-build defs) c (known-each M k))
+  pub expand-bears : (defs : List MacroDef) → All (λ (d : MacroDef). All M (flatDef d) × All B (flatDef d)) defs
+      → (c : Condition) → All M (flatCondition c) → All I (flatCondition c) → Bears M flatTree (expand limit file defs c)
+  expand-bears defs d c k i =
+      bears M
+      (said-expand defs limit file (rules-of limit closed) (all-map (λ x h. known-each M B (h .0) (h .1)) d) (refuses-build defs) c (known-each M I k i))
+
+pub all-unasked : (es : List Entry) → All Unasked es
+all-unasked [] = all-nil
+all-unasked (e ∷ es) = all-cons tt (all-unasked es)
 
 -- ------------------------------------------------------------------ a result is never too large
 
 -- no rule at all
-unasked : (limit file : ℕ) → Rules Any Unasked Any Any-number Any-number limit file
-unasked limit file = rules-of limit (closed-texts (λ t k start. tt))
+unasked : (limit file : ℕ) → Rules Any Unasked Unasked Unasked Any Any-number Any-number limit file
+unasked limit file = rules-of limit (closed-texts Any (λ t k start. tt))
 
-all-unasked : (es : List Entry) → All (Known Any Unasked Any-number) es
-all-unasked [] = all-nil
-all-unasked (e ∷ es) = all-cons (tt, tt, tt) (all-unasked es)
+anything : (es : List Entry) → All (Known Any Unasked Any-number Unasked) es
+anything es = known-each Unasked Unasked (all-unasked es) (all-unasked es)
 
 abbrev pub Small : Outcome Tree → Type 0
 Small o = Good AnswersRefusal (λ t n. tooLargeTree t ≡ false) o
@@ -47,8 +51,8 @@ small (good-done h) = good-done (h .2)
 small (good-refused h) = good-refused (h .0 .1)
 
 pub substitute-small : (limit file : ℕ) (def : MacroDef) (call : Call) → Small (substitute limit file def call)
-substitute-small limit file def call = small (said-substitute (unasked limit file) def (all-unasked _) call (all-unasked _))
+substitute-small limit file def call = small (said-substitute (unasked limit file) def (anything _) call (anything _))
 
 pub expand-small : (limit file : ℕ) (defs : List MacroDef) (c : Condition) → Small (expand limit file defs c)
 expand-small limit file defs c =
-    small (said-expand defs limit file (unasked limit file) (all-map (λ d h. all-unasked (flatDef d)) (all-any defs)) (refuses-build defs) c (all-unasked _))
+    small (said-expand defs limit file (unasked limit file) (all-map (λ d h. anything (flatDef d)) (all-any defs)) (refuses-build defs) c (anything _))

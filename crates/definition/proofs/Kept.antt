@@ -13,7 +13,7 @@ use Rattle.format.specs.Ast.{Condition, Call, Tree, MacroParam, MacroDef}
 use Rattle.format.specs.Flat.{flatCondition, flatCall, flatTree, flatParams, flatDef, flatDefs, flatRegistry}
 use Rattle.format.specs.Limits.{nodeWeight, callWeight, deepTree, deepBody, fitsSizes, fitsDepths, fitsAll, tooLargeTree}
 use Rattle.format.specs.Macro.{isCode}
-use Rattle.format.specs.Tape.{Reading, longestText, textsWithin, shortTexts, fewParams, small, conditionRoot, definitionRoot, callRoot, registryRoot, read}
+use Rattle.format.specs.Tape.{Reading, longestText, textsWithin, shortTexts, fewParams, small, conditionRoot, definitionRoot, callRoot, registryRoot, read, Bytes}
 use Rattle.format.proofs.All.{All, all-nil, all-cons, all-head, all-tail, all-left, all-right, all-both, all-map}
 use Rattle.format.proofs.Accepted.{Values64, OnTape}
 use Rattle.format.proofs.Tests.{and-left, and-right, not-refused}
@@ -23,12 +23,14 @@ use Rattle.format.proofs.Exact.{lawful-condition, lawful-definition, lawful-cal
 use Rattle.definition.specs.Outcome.{Refusal, Outcome}
 use Rattle.definition.specs.Check.{Verdict, namesOf, checkDef}
 use Rattle.definition.specs.Registry.{build}
+use Rattle.definition.specs.Expand.{expand}
 use Rattle.definition.specs.Answers.{Buffers, padded, answer, numberAlone, reading, longBuffers, treeAnswer, expandTapes, expandAnswer, substituteTapes, substituteAnswer, messageAlone, verdict, messageAnswer, checkAnswer, registryAnswer}
 use Rattle.definition.specs.Kept.{Bounded, CheckBounded, RegistryBounded, SubstituteBounded, ExpandBounded}
 use Rattle.definition.proofs.Good.{good-done, good-refused}
 use Rattle.definition.proofs.Lengths.{Short, Name, Declared, Number, short-reserved, short-duplicate, short-undeclared, short-plain, short-macroInMacro, short-unknown, short-cedarInCondition, short-cedarInValue, short-valueAsCondition, short-conditionAsValue, short-count, short-budget, short-strayCondition, short-strayWithin, short-straySlot, short-strayField, short-strayOperand, short-unbound, short-notACondition, short-binderAsCondition, short-notAnInterval, short-notATerm, short-notAnIdentifier, short-notAPredicate}
+use Rattle.definition.proofs.Lookup.{each-def}
 use Rattle.definition.proofs.Readings.{of-reading}
-use Rattle.definition.proofs.Verdicts.{Given, passes, refuses, given-body, given-build}
+use Rattle.definition.proofs.Verdicts.{Given, passes, refuses, Any, given-body, given-build}
 use Rattle.definition.proofs.Rules.{closed-texts, Rules, Unasked, Known, RefusalMatches, Fits}
 use Rattle.definition.proofs.SaidSubstitute.{def-name, def-body, said-substitute}
 use Rattle.definition.proofs.SaidExpand.{said-expand}
@@ -36,7 +38,7 @@ use Rattle.definition.proofs.SaidExpand.{said-expand}
 -- ------------------------------------------------------------------ the rules: names of at most 255 bytes, values below 2^64
 
 abbrev pub Sized : Entry → Type 0
-Sized e = Known Name Unasked Number e
+Sized e = Known Name Unasked Number Unasked e
 
 abbrev pub SizedDef : MacroDef → Type 0
 SizedDef d = All Sized (flatDef d)
@@ -45,10 +47,10 @@ SizedDef d = All Sized (flatDef d)
 pub no-message : Short []
 no-message = lit≤ tt
 
-short-rules : (limit file : ℕ) → limit < 2 ^ 32 → Rules Name Unasked Short Number (λ n. n ≤ limit) limit file
+short-rules : (limit file : ℕ) → limit < 2 ^ 32 → Rules Name Unasked Unasked Unasked Short Number (λ n. n ≤ limit) limit file
 short-rules limit file small =
     record {
-      closed = closed-texts (λ t k start. tt);
+      closed = closed-texts Any (λ t k start. tt);
       charged = λ n h. h;
       says-nothing = no-message;
       says-30 = short-unknown;
@@ -94,7 +96,7 @@ longest c = go (isCode (22 ∷ 23 ∷ []) c)
     go false = omega arith
 
 sized : {es : List Entry} → All ShortText es → Values64 es → All Sized es
-sized h v = all-map (λ e s. (omega (arith, s .0, longest (e .code)), s .1, tt)) (all-both h v)
+sized h v = all-map (λ e s. (omega (arith, s .0, longest (e .code)), s .1, tt, tt)) (all-both h v)
 
 sized-condition : (bytes : List ℕ) (c : Condition) → OnTape conditionRoot bytes c → All Sized (flatCondition c)
 unfolding conditionRoot small
@@ -138,15 +140,10 @@ short-check bytes def t =
     })
     (def .body) (all-map (λ e k. k .0) (def-body def (sized-definition bytes def t)))
 
-sized-defs : (ds : List MacroDef) → All Sized (flatDefs ds) → All SizedDef ds
-unfolding flatDefs
-sized-defs [] h = all-nil
-sized-defs (d ∷ ds) h = all-cons (all-left (flatDef d) _ h) (sized-defs ds (all-right (flatDef d) h))
-
 pub sized-registry : (bytes : List ℕ) (ds : List MacroDef) → OnTape registryRoot bytes ds → All SizedDef ds
 unfolding registryRoot small flatRegistry
 sized-registry bytes ds t =
-    sized-defs ds (all-tail (sized (short-texts _ (and-left (shortTexts (flatRegistry ds)) _ (t .small))) (t .range .values)))
+    each-def ds (all-tail (sized (short-texts _ (and-left (shortTexts (flatRegistry ds)) _ (t .small))) (t .range .values)))
 
 pub short-build : (ds : List MacroDef) → All SizedDef ds → Given ShortRefusal (build ds)
 short-build ds h =
@@ -242,10 +239,10 @@ registry-bounded m registry q =
 
 -- ------------------------------------------------------------------ substitution and expansion
 
-abbrev treeTape : Tree → List ℕ
+abbrev pub treeTape : Tree → List ℕ
 treeTape t = encode (flatTree t)
 
-bounded-tree : (b : Buffers) (limit : ℕ) (o : Outcome Tree)
+pub bounded-tree : (b : Buffers) (limit : ℕ) (o : Outcome Tree)
     → (12296 ≤ b .resultLength → 2048 ≤ b .messageLength → Bounded b limit (answer treeTape b o)) → Bounded b limit (treeAnswer b o)
 unfolding treeAnswer longBuffers
 bounded-tree b limit o f = go (longBuffers b) (λ h. h)
@@ -257,7 +254,7 @@ bounded-tree b limit o f = go (longBuffers b) (λ h. h)
         (leb→le 2048 (b .messageLength) (and-right (leb 65536 (b .workLength)) _ (and-right wide _ (h tt))))
     go false h = bounded-number-alone treeTape b limit 1
 
-bounded-kept : (b : Buffers) (limit : ℕ) {o : Outcome Tree} → 12296 ≤ b .resultLength → 2048 ≤ b .messageLength
+pub bounded-kept : (b : Buffers) (limit : ℕ) {o : Outcome Tree} → 12296 ≤ b .resultLength → 2048 ≤ b .messageLength
     → Fits Short Unasked (λ n. n ≤ limit) (λ t. t) o → Bounded b limit (answer treeTape b o)
 bounded-kept b limit large long (good-done {a = t} {n = n} k) =
     bounded-done treeTape b limit t n (k .0) (omega (arith, tape-length t (k .2)))
@@ -275,13 +272,19 @@ substitute-bounded b limit file small definition input p q =
     bounded-kept b limit large long
     (said-substitute (short-rules limit file small) def (sized-definition _ def d) call (sized-call _ call c))
 
+-- what expansion answers to tapes that are read
+pub kept-expanded : (limit file : ℕ) → limit < 2 ^ 32 → (registry input : List ℕ) → Bytes registry → Bytes input
+    → (defs : List MacroDef) → read registryRoot registry ≡ Reading.accepted defs → (c : Condition) → read conditionRoot input ≡ Reading.accepted c
+    → Fits Short Unasked (λ n. n ≤ limit) (λ t. t) (expand limit file defs c)
+kept-expanded limit file small registry input p q defs h condition k =
+    let ds = sized-registry _ defs (read-on-tape registryRoot rewrites-registry lawful-registry registry p defs h) in
+    let c = read-on-tape conditionRoot rewrites-condition lawful-condition input q condition k in
+    said-expand defs limit file (short-rules limit file small) ds (short-build defs ds) condition (sized-condition _ condition c)
+
 pub expand-bounded : ExpandBounded
 unfolding expandAnswer expandTapes
 expand-bounded b limit file small registry input p q =
     bounded-tree b limit _ λ large long.
     bounded-reading treeTape b limit (read registryRoot registry) _ λ defs h.
     bounded-reading treeTape b limit (read conditionRoot input) _ λ condition k.
-    let ds = sized-registry _ defs (read-on-tape registryRoot rewrites-registry lawful-registry registry p defs h) in
-    let c = read-on-tape conditionRoot rewrites-condition lawful-condition input q condition k in
-    bounded-kept b limit large long
-    (said-expand defs limit file (short-rules limit file small) ds (short-build defs ds) condition (sized-condition _ condition c))
+    bounded-kept b limit large long (kept-expanded limit file small registry input p q defs h condition k)

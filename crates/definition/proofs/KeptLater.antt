@@ -9,10 +9,10 @@ use mathlib.Core.Option.{Option, none, some}
 use lib.Dec.{T, leb, leb→le}
 use lib.ListN.{length}
 use Rattle.format.specs.Entry.{Entry, encode, le, textOf}
-use Rattle.format.specs.Ast.{MacroDef}
-use Rattle.format.specs.Flat.{flatRegistry}
+use Rattle.format.specs.Ast.{Tree, MacroDef}
+use Rattle.format.specs.Flat.{flatCondition, flatTree, flatRegistry}
 use Rattle.format.specs.Limits.{fitsSizes}
-use Rattle.format.specs.Tape.{Reading, registryRoot, namedRoot, read, Bytes}
+use Rattle.format.specs.Tape.{Reading, conditionRoot, registryRoot, namedRoot, read, Bytes}
 use Rattle.format.proofs.Tests.{and-left, and-right, not-refused}
 use Rattle.format.proofs.Encodes.{fitting, length-encode}
 use Rattle.format.proofs.Exact.{lawful-registry}
@@ -28,9 +28,14 @@ use Rattle.definition.specs.Preview.{sizesOnly}
 use Rattle.definition.specs.Library.{inFront, refusedFrom, refusedOf, refusedBytes, listBytes, libraryTapes, libraryAnswer, definitionAt, checkFound, checkAtAnswer}
 use Rattle.definition.specs.Merge.{joined, firstDiffering, refuseDiffering, tooLargeRegistry, merge, mergeTapes, registryTape, mergeAnswer}
 use Rattle.definition.specs.Profile.{Placed, rule, profileFrom, profile, noBuffers, profileAnswer}
-use Rattle.definition.specs.Kept.{Bounded, PreviewBounded, LibraryBounded, CheckAtBounded, MergeBounded, ProfileBounded}
+use Rattle.definition.specs.Kept.{Bounded, PreviewBounded, LibraryBounded, CheckAtBounded, MergeBounded, ProfileBounded, JudgeBounded}
+use Rattle.definition.specs.Agree.{protectedNames, sameButNames}
+use Rattle.definition.specs.Judge.{requireEqual, judge, longestName, judgeTapes, judgeAnswer}
+use Rattle.definition.proofs.Good.{good-done, good-refused}
+use Rattle.definition.proofs.Lengths.{Short}
+use Rattle.definition.proofs.Rules.{Unasked, Fits}
 use Rattle.definition.proofs.Verdicts.{Given, passes, refuses, both}
-use Rattle.definition.proofs.Kept.{no-message, ShortRefusal, nothing, short-check, sized-registry, short-build, bounded-done, bounded-refused, bounded-number-alone, bounded-reading, bounded-message, bounded-verdict, expand-bounded}
+use Rattle.definition.proofs.Kept.{no-message, ShortRefusal, nothing, short-check, sized-registry, short-build, bounded-done, bounded-refused, bounded-number-alone, bounded-reading, bounded-message, bounded-verdict, treeTape, bounded-tree, bounded-kept, kept-expanded, expand-bounded}
 use Rattle.definition.proofs.Library.{found-at}
 use Rattle.definition.proofs.Preview.{previews}
 
@@ -168,3 +173,26 @@ profile-bounded input =
     go : (v : Verdict) → Given WithoutMessage v → Bounded noBuffers 0 (answer nothing noBuffers (verdict v))
     go none g = bounded-done nothing noBuffers 0 tt 0 (omega arith) (omega arith)
     go (some r) (refuses s) = bounded-refused nothing noBuffers 0 r 0 (omega arith) (omega arith) (omega arith)
+
+-- ------------------------------------------------------------------ judge
+
+-- a judge keeps what expansion keeps, and 50 has no message
+bounded-judge : (b : Buffers) (limit : ℕ) (same : Tree → Bool) {o : Outcome Tree} → 12296 ≤ b .resultLength → 2048 ≤ b .messageLength
+    → Fits Short Unasked (λ n. n ≤ limit) (λ t. t) o → Bounded b limit (answer treeTape b (proceed o λ t. requireEqual (same t) t))
+unfolding proceed requireEqual
+bounded-judge b limit same large long (good-refused k) = bounded-kept b limit large long (good-refused k)
+bounded-judge b limit same large long (good-done {a = t} {n = n} k) = go (same t)
+  where
+    go : (x : Bool) → Bounded b limit (answer treeTape b (requireEqual x t n))
+    go true = bounded-kept b limit large long (good-done k)
+    go false = bounded-refused treeTape b limit _ n (k .0) no-message (omega arith)
+
+pub judge-bounded : JudgeBounded
+unfolding judgeAnswer judgeTapes judge
+judge-bounded b limit file small registry input supplied p q =
+    bounded-tree b limit _ λ large long.
+    bounded-reading treeTape b limit (read registryRoot registry) _ λ defs h.
+    bounded-reading treeTape b limit (read conditionRoot input) _ λ condition k.
+    bounded-reading treeTape b limit (read (namedRoot (longestName file)) supplied) _ λ theirs l.
+    bounded-judge b limit (λ t. sameButNames (protectedNames defs condition) [] (flatTree t) (flatCondition theirs)) large long
+    (kept-expanded limit file small registry input p q defs h condition k)

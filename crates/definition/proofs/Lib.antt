@@ -5,9 +5,14 @@ pub mod Residue
 pub mod Kept
 pub mod KeptLater
 pub mod Whole
+pub mod WholeLater
 pub mod Withdrawn
 pub mod Older
 pub mod SameVerdicts
+pub mod Judge
+pub mod JudgeCases
+pub mod Suppliers
+pub mod OwnResult
 pub mod Names
 pub mod LengthenedSubstitute
 pub mod Lengthened
@@ -32,6 +37,10 @@ mod SaidSubstitute
 mod SaidExpand
 mod Borne
 mod Readings
+mod Texts
+mod Alike
+pub mod Agree
+pub mod Generated
 mod Join
 mod Widen
 mod Unchanged

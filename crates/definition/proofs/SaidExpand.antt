@@ -1,11 +1,11 @@
--- What expansion answers, by the rules: every message has S, every code and text of the tree M, and what is charged C.
+-- What expansion answers, by the rules: every message has S, every entry of the tree M, and what is charged C.
 -- Assumes nothing.
 use Prim.Native.Nat.{ℕ}
 use native.Mathlib.Omega.{arith}
 use mathlib.Core.List.{List, [], _∷_}
 use mathlib.Core.Bool.{Bool, true, false}
 use mathlib.Core.Option.{Option, none, some}
-use Rattle.format.specs.Entry.{Text}
+use Rattle.format.specs.Entry.{Text, Entry, entry}
 use Rattle.format.specs.Ast.{WithinSpec, BinderSlot, TypedBinder, Sigil, Condition, Term, AggExpr, Call, CallArg, CallArgs, NamedArgs, Terms, Tree, MacroBody, MacroDef, argsOf}
 use Rattle.format.specs.Flat.{flatTexts, flatWithin, flatSlot, flatBinder, flatBinders, flatCondition, flatTerm, flatAgg, flatCall, flatArg, flatArgs, flatFields, flatTerms, flatTree, flatBody, flatDef, lengthArgs}
 use Rattle.format.proofs.All.{All, all-nil, all-cons, all-head, all-tail, all-append, all-left, all-right}
@@ -18,9 +18,9 @@ use Rattle.definition.proofs.Good.{Good, good-done, good-refused, step,
 use Rattle.definition.proofs.Lookup.{Found, not-found, found, found-in}
 use Rattle.definition.proofs.Verdicts.{Given, passes, refuses}
 use Rattle.definition.proofs.Rules.{Rules, Known, RefusalMatches, Said, Answers, Fits}
-use Rattle.definition.proofs.SaidSubstitute.{own, said-arity, said-limits, said-chargeBody, said-refine, def-body, said-substituteCondition, said-substituteValue}
+use Rattle.definition.proofs.SaidSubstitute.{spanOf, own, said-arity, said-limits, said-chargeBody, said-refine, def-body, said-substituteCondition, said-substituteValue}
 
-module _ {N S : Text → Type 0} {M : ℕ → Text → Type 0} {K C : ℕ → Type 0} (defs : List MacroDef) (limit file : ℕ) (rules : Rules N M S K C limit file) where
+module _ {N S : Text → Type 0} {B I M : Entry → Type 0} {K C : ℕ → Type 0} (defs : List MacroDef) (limit file : ℕ) (rules : Rules N B I M S K C limit file) where
   abbrev reg : Registry
   reg = record { defs = defs; limit = limit; file = file }
 
@@ -40,7 +40,7 @@ module _ {N S : Text → Type 0} {M : ℕ → Text → Type 0} {K C : ℕ → Ty
   said-checkSlot (BinderSlot.ParamRef i) k span n h = good-refused ((rules .says-38 i k Sigil.Param, tt), h)
   said-checkSlot (BinderSlot.BinderRef i) k span n h = good-refused ((rules .says-38 i k Sigil.Binder, tt), h)
 
-  said-checkBinders : (bs : List TypedBinder) → All (Known N M K) (flatBinders bs) → (span n : ℕ) → C n → Tests (checkConcreteBinders bs span n)
+  said-checkBinders : (bs : List TypedBinder) → All (Known N M K I) (flatBinders bs) → (span n : ℕ) → C n → Tests (checkConcreteBinders bs span n)
   unfolding checkConcreteBinders _>>=_ _>>_ flatBinders flatBinder
   said-checkBinders [] k span n h = good-done h
   said-checkBinders (b ∷ bs) k span n h =
@@ -50,7 +50,7 @@ module _ {N S : Text → Type 0} {M : ℕ → Text → Type 0} {K C : ℕ → Ty
   mutual
     unfolding checkConcreteTerm _>>=_ _>>_ flatTerm
 
-    said-checkTerm : (t : Term) → All (Known N M K) (flatTerm t) → (span n : ℕ) → C n → Tests (checkConcreteTerm t span n)
+    said-checkTerm : (t : Term) → All (Known N M K I) (flatTerm t) → (span n : ℕ) → C n → Tests (checkConcreteTerm t span n)
     said-checkTerm (Term.ParamRef i) k span n h = good-refused ((rules .says-39 i (all-head k .0) Sigil.Param, tt), h)
     said-checkTerm (Term.BinderRef i) k span n h = good-refused ((rules .says-39 i (all-head k .0) Sigil.Binder, tt), h)
     said-checkTerm (Term.Array ts) k span n h = said-checkTerms ts (all-tail k) span n h
@@ -66,13 +66,13 @@ module _ {N S : Text → Type 0} {M : ℕ → Text → Type 0} {K C : ℕ → Ty
     said-checkTerm (Term.Agg a) k span n h = good-done h
     said-checkTerm (Term.Arith op l r) k span n h = good-done h
 
-    said-checkTerms : (ts : Terms) → All (Known N M K) (flatTerms ts) → (span n : ℕ) → C n → Tests (checkConcreteTerms ts span n)
+    said-checkTerms : (ts : Terms) → All (Known N M K I) (flatTerms ts) → (span n : ℕ) → C n → Tests (checkConcreteTerms ts span n)
     said-checkTerms Terms.noTerms k span n h = good-done h
     said-checkTerms (Terms.consTerm t ts) k span n h =
         step (said-checkTerm t (all-left (flatTerm t) _ k) span n h) λ u n₁ h₁.
         said-checkTerms ts (all-right (flatTerm t) k) span n₁ h₁
 
-  said-checkFields : (fs : NamedArgs) → All (Known N M K) (flatFields fs) → (span n : ℕ) → C n → Tests (checkConcreteFields fs span n)
+  said-checkFields : (fs : NamedArgs) → All (Known N M K I) (flatFields fs) → (span n : ℕ) → C n → Tests (checkConcreteFields fs span n)
   unfolding checkConcreteFields _>>=_ _>>_ flatFields
   said-checkFields NamedArgs.noFields k span n h = good-done h
   said-checkFields (NamedArgs.consField i t fs) k span n h =
@@ -85,40 +85,40 @@ module _ {N S : Text → Type 0} {M : ℕ → Text → Type 0} {K C : ℕ → Ty
   abbrev Takes : {A : Type 0} → (A → Type 0) → Outcome A → Type 0
   Takes P o = Good (Said S C) (λ a n. C n × P a) o
 
-  said-conditionBody : (body : MacroBody) → All (Known N M K) (flatBody body) → (name : Text) → N name → (span n : ℕ) → C n
-      → Takes (λ (c : Condition). All (Known N M K) (flatCondition c)) (conditionBody body name span n)
+  said-conditionBody : (body : MacroBody) → All (Known N M K B) (flatBody body) → (name : Text) → N name → (span n : ℕ) → C n
+      → Takes (λ (c : Condition). All (Known N M K B) (flatCondition c)) (conditionBody body name span n)
   unfolding conditionBody flatBody
   said-conditionBody (MacroBody.TemporalCondition c) b name k span n h = good-done (h, all-tail b)
   said-conditionBody MacroBody.Cedar b name k span n h = good-refused ((rules .says-31 name k, tt), h)
   said-conditionBody (MacroBody.TemporalValue t) b name k span n h = good-refused ((rules .says-32 name k, tt), h)
 
-  said-valueBody : (body : MacroBody) → All (Known N M K) (flatBody body) → (name : Text) → N name → (span n : ℕ) → C n
-      → Takes (λ (t : Term). All (Known N M K) (flatTerm t)) (valueBody body name span n)
+  said-valueBody : (body : MacroBody) → All (Known N M K B) (flatBody body) → (name : Text) → N name → (span n : ℕ) → C n
+      → Takes (λ (t : Term). All (Known N M K B) (flatTerm t)) (valueBody body name span n)
   unfolding valueBody flatBody
   said-valueBody (MacroBody.TemporalValue t) b name k span n h = good-done (h, all-tail b)
   said-valueBody MacroBody.Cedar b name k span n h = good-refused ((rules .says-31-value name k, tt), h)
   said-valueBody (MacroBody.TemporalCondition c) b name k span n h = good-refused ((rules .says-33 name k, tt), h)
 
-  said-asAgg : (w : Walk AggExpr) (n : ℕ) → M 30 [] → Answers S M C flatAgg (w n) → Answers S M C flatTerm (asAgg w n)
+  said-asAgg : (w : Walk AggExpr) (n : ℕ) → M (entry 30 0) → Answers S M C flatAgg (w n) → Answers S M C flatTerm (asAgg w n)
   unfolding asAgg _>>=_ flatTerm
   said-asAgg w n m g = step g λ a n₁ h₁. good-done (h₁ .0, all-cons m (h₁ .1))
 
-  said-asConditionArg : (w : Walk Condition) (n : ℕ) → M 55 [] → Answers S M C flatCondition (w n) → Answers S M C flatArg (asConditionArg w n)
+  said-asConditionArg : (w : Walk Condition) (n : ℕ) → M (entry 55 0) → Answers S M C flatCondition (w n) → Answers S M C flatArg (asConditionArg w n)
   unfolding asConditionArg _>>=_ flatArg
   said-asConditionArg w n m g = step g λ c n₁ h₁. good-done (h₁ .0, all-cons m (h₁ .1))
 
-  said-asTermArg : (w : Walk Term) (n : ℕ) → M 56 [] → Answers S M C flatTerm (w n) → Answers S M C flatArg (asTermArg w n)
+  said-asTermArg : (w : Walk Term) (n : ℕ) → M (entry 56 0) → Answers S M C flatTerm (w n) → Answers S M C flatArg (asTermArg w n)
   unfolding asTermArg _>>=_ flatArg
   said-asTermArg w n m g = step g λ t n₁ h₁. good-done (h₁ .0, all-cons m (h₁ .1))
 
-  module _ (known : All (λ (d : MacroDef). All (Known N M K) (flatDef d)) defs) where
+  module _ (known : All (λ (d : MacroDef). All (Known N M K B) (flatDef d)) defs) where
     said-resolve : (name : Text) → N name → (span n : ℕ) → C n
-        → Takes (λ (d : MacroDef). All (Known N M K) (flatDef d)) (resolve reg name span n)
+        → Takes (λ (d : MacroDef). All (Known N M K B) (flatDef d)) (resolve reg name span n)
     unfolding resolve
     said-resolve name k span n h = go (get defs name) (found-in known name)
       where
-        go : (o : Option MacroDef) → Found (λ (d : MacroDef). All (Known N M K) (flatDef d)) o
-            → Takes (λ (d : MacroDef). All (Known N M K) (flatDef d)) ((elim o as (λ x. Walk MacroDef) [
+        go : (o : Option MacroDef) → Found (λ (d : MacroDef). All (Known N M K B) (flatDef d)) o
+            → Takes (λ (d : MacroDef). All (Known N M K B) (flatDef d)) ((elim o as (λ x. Walk MacroDef) [
               | some d ↦ pure d
               | none ↦ refuse 30 span (unknownMacro name)
             ]) n)
@@ -128,9 +128,9 @@ module _ {N S : Text → Type 0} {M : ℕ → Text → Type 0} {K C : ℕ → Ty
     -- ------------------------------------------------------------------ the walk
 
     mutual
-      unfolding expandTemporalCondition _>>=_ _>>_ flatCondition flatBinder flatTree argsOf
+      unfolding expandTemporalCondition _>>=_ _>>_ flatCondition flatBinder flatTree argsOf spanOf
 
-      said-condition : (c : Condition) → All (Known N M K) (flatCondition c) → (n : ℕ) → C n
+      said-condition : (c : Condition) → All (Known N M K I) (flatCondition c) → (n : ℕ) → C n
           → Answers S M C flatCondition (expandTemporalCondition reg c n)
       said-condition (Condition.And s l r) k n h =
           step (said-condition l (all-left (flatCondition l) _ (all-tail k)) n h) λ l′ n₁ h₁.
@@ -173,7 +173,7 @@ module _ {N S : Text → Type 0} {M : ℕ → Text → Type 0} {K C : ℕ → Ty
           step (said-condition c (all-left (flatCondition c) _ (all-tail (all-tail k))) n h) λ c′ n₁ h₁.
           said-refine rules c′ fs o n₁ (h₁ .0) (h₁ .1) (own rules (all-tail (all-right (flatCondition c) (all-tail (all-tail k)))))
 
-      said-operand : (t : Term) → All (Known N M K) (flatTerm t) → (n : ℕ) → C n → Answers S M C flatTerm (expandTemporalOperand reg t n)
+      said-operand : (t : Term) → All (Known N M K I) (flatTerm t) → (n : ℕ) → C n → Answers S M C flatTerm (expandTemporalOperand reg t n)
       said-operand (Term.Agg a) k n h = said-agg a (all-head k .2) (all-tail k) n h
       said-operand (Term.Arith op l r) k n h =
           step (said-operand l (all-left (flatTerm l) _ (all-tail k)) n h) λ l′ n₁ h₁.
@@ -192,7 +192,7 @@ module _ {N S : Text → Type 0} {M : ℕ → Text → Type 0} {K C : ℕ → Ty
       said-operand Term.Wildcard k n h = good-done (h, own rules k)
       said-operand (Term.Array ts) k n h = good-done (h, own rules k)
 
-      said-agg : (a : AggExpr) → M 30 [] → All (Known N M K) (flatAgg a) → (n : ℕ) → C n
+      said-agg : (a : AggExpr) → M (entry 30 0) → All (Known N M K I) (flatAgg a) → (n : ℕ) → C n
           → Answers S M C flatTerm (expandAggOperand reg a (expandTemporalAgg reg a) n)
       said-agg (AggExpr.AggCall s c) m k n h = said-callToValue c (all-tail k) n h
       said-agg (AggExpr.Sum s v bs c) m k n h =
@@ -211,7 +211,7 @@ module _ {N S : Text → Type 0} {M : ℕ → Text → Type 0} {K C : ℕ → Ty
           step (said-condition c (all-right (flatBinders bs) rest) n₁ h₁) λ c′ n₂ h₂.
           good-done (h₂ .0, all-cons (all-head k .2) (all-cons (all-head (all-tail k) .2) (all-append (own rules binders) (h₂ .1)))))
 
-      said-callToCondition : (c : Call) → All (Known N M K) (flatCall c) → (n : ℕ) → C n
+      said-callToCondition : (c : Call) → All (Known N M K I) (flatCall c) → (n : ℕ) → C n
           → Answers S M C flatCondition (expandTemporalCallToCondition reg c n)
       said-callToCondition (Call.MacroCall span name args) k n h =
           let named = all-head (all-tail k) .0 in
@@ -222,9 +222,9 @@ module _ {N S : Text → Type 0} {M : ℕ → Text → Type 0} {K C : ℕ → Ty
           step (said-limits rules _ span n₄ (h₄ .0)) λ u₅ n₅ h₅.
           step (said-chargeBody rules _ span n₅ (h₅ .0)) λ u₆ n₆ h₆.
           weaken (λ c′ n₇ h₇. (h₇ .0, h₇ .1))
-          (said-substituteCondition rules def (h₁ .1) body (h₂ .1) (Call.MacroCall span name args′) (h₄ .1) n₆ h₆)
+          (said-substituteCondition rules def (h₁ .1) body (h₂ .1) (Call.MacroCall span name args′) (all-head k .3) (h₄ .1) n₆ h₆)
 
-      said-callToValue : (c : Call) → All (Known N M K) (flatCall c) → (n : ℕ) → C n → Answers S M C flatTerm (expandTemporalCallToValue reg c n)
+      said-callToValue : (c : Call) → All (Known N M K I) (flatCall c) → (n : ℕ) → C n → Answers S M C flatTerm (expandTemporalCallToValue reg c n)
       said-callToValue (Call.MacroCall span name args) k n h =
           let named = all-head (all-tail k) .0 in
           step (said-resolve name named span n h) λ def n₁ h₁.
@@ -234,21 +234,21 @@ module _ {N S : Text → Type 0} {M : ℕ → Text → Type 0} {K C : ℕ → Ty
           step (said-limits rules _ span n₄ (h₄ .0)) λ u₅ n₅ h₅.
           step (said-chargeBody rules _ span n₅ (h₅ .0)) λ u₆ n₆ h₆.
           weaken (λ t′ n₇ h₇. (h₇ .0, h₇ .1))
-          (said-substituteValue rules def (h₁ .1) body (h₂ .1) (Call.MacroCall span name args′) (h₄ .1) n₆ h₆)
+          (said-substituteValue rules def (h₁ .1) body (h₂ .1) (Call.MacroCall span name args′) (all-head k .3) (h₄ .1) n₆ h₆)
 
-      said-args : (args : CallArgs) → All (Known N M K) (flatArgs args) → (n : ℕ) → C n → Answers S M C flatArgs (expandTemporalCallArgs reg args n)
+      said-args : (args : CallArgs) → All (Known N M K I) (flatArgs args) → (n : ℕ) → C n → Answers S M C flatArgs (expandTemporalCallArgs reg args n)
       said-args CallArgs.noArgs k n h = good-done (h, all-nil)
       said-args (CallArgs.consArg a rest) k n h =
           step (said-arg a (all-left (flatArg a) _ k) n h) λ a′ n₁ h₁.
           step (said-args rest (all-right (flatArg a) k) n₁ (h₁ .0)) λ rest′ n₂ h₂.
           good-done (h₂ .0, all-append (h₁ .1) (h₂ .1))
 
-      said-arg : (a : CallArg) → All (Known N M K) (flatArg a) → (n : ℕ) → C n → Answers S M C flatArg (expandTemporalCallArg reg a n)
+      said-arg : (a : CallArg) → All (Known N M K I) (flatArg a) → (n : ℕ) → C n → Answers S M C flatArg (expandTemporalCallArg reg a n)
       said-arg (CallArg.ConditionArg c) k n h = said-conditionArg c (all-head k .2) (all-tail k) n h (said-condition c (all-tail k) n h)
       said-arg (CallArg.TermArg t) k n h = said-asTermArg (expandTemporalOperand reg t) n (all-head k .2) (said-operand t (all-tail k) n h)
       said-arg (CallArg.WithinArg i) k n h = good-done (h, own rules k)
 
-      said-conditionArg : (c : Condition) → M 55 [] → All (Known N M K) (flatCondition c) → (n : ℕ) → C n
+      said-conditionArg : (c : Condition) → M (entry 55 0) → All (Known N M K I) (flatCondition c) → (n : ℕ) → C n
           → Answers S M C flatCondition (expandTemporalCondition reg c n)
           → Answers S M C flatArg (expandConditionArg reg c (expandTemporalCondition reg c) n)
       said-conditionArg (Condition.ConditionCall s c) m k n h g = go (callsValue reg c) (said-callToValue c (all-tail k) n h)
@@ -275,7 +275,7 @@ module _ {N S : Text → Type 0} {M : ℕ → Text → Type 0} {K C : ℕ → Ty
 
     -- ------------------------------------------------------------------ the operation
 
-    said-whole : (c : Condition) → All (Known N M K) (flatCondition c) → (n : ℕ) → C n → Fits S M C (λ t. t) (expandWhole reg c n)
+    said-whole : (c : Condition) → All (Known N M K I) (flatCondition c) → (n : ℕ) → C n → Fits S M C (λ t. t) (expandWhole reg c n)
     unfolding expandWhole _>>=_ _>>_ flatTree
     said-whole c k n h =
         step (said-condition c k n h) λ c′ n₁ h₁.
@@ -288,7 +288,7 @@ module _ {N S : Text → Type 0} {M : ℕ → Text → Type 0} {K C : ℕ → Ty
     said-unless passes g n h = g n h
     said-unless (refuses t) g n h = good-refused (t, h)
 
-    pub said-expand : Given (RefusalMatches S) (build defs) → (c : Condition) → All (Known N M K) (flatCondition c)
+    pub said-expand : Given (RefusalMatches S) (build defs) → (c : Condition) → All (Known N M K I) (flatCondition c)
         → Fits S M C (λ t. t) (expand limit file defs c)
     unfolding expand
     said-expand v c k = said-unless v (said-whole c k) 0 (rules .charged 0 (omega arith))

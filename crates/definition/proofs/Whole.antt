@@ -3,11 +3,11 @@
 use Prim.Native.Nat.{ℕ, _-_}
 use mathlib.Core.Path.{_≡_, refl, subst}
 use mathlib.Core.List.{List, [], _∷_}
-use mathlib.Core.Bool.{Bool, true, false, not}
-use lib.Dec.{T, eqb, leb}
+use mathlib.Core.Bool.{Bool, true, false}
+use lib.Dec.{T, leb}
 use lib.ListN.{length, replicate}
 use lib.Seq.{take-at}
-use Rattle.format.specs.Entry.{Text, Entry, encode}
+use Rattle.format.specs.Entry.{Entry, encode}
 use Rattle.format.specs.Ast.{Tree, MacroParam, MacroDef}
 use Rattle.format.specs.Flat.{flatCondition, flatCall, flatTree, flatParams, flatDef, flatDefs, flatRegistry}
 use Rattle.format.specs.Utf8.{wellTexts, openUtf8}
@@ -23,26 +23,27 @@ use Rattle.definition.specs.Registry.{build}
 use Rattle.definition.specs.Answers.{Buffers, padded, answer, numberAlone, reading, longBuffers, treeAnswer, expandTapes, expandAnswer, substituteTapes, substituteAnswer, messageAlone, verdict, messageAnswer, checkAnswer, registryAnswer}
 use Rattle.definition.specs.Whole.{WholeOutcome, whole-tree, whole-message, WholeVerdict, whole-pass, whole-refusal, CheckDefWhole, BuildWhole, SubstituteWhole, ExpandWhole, WholeAnswer, WholeMessage, CheckWhole, RegistryWhole, SubstituteTapesWhole, ExpandTapesWhole}
 use Rattle.definition.proofs.Good.{good-done, good-refused}
+use Rattle.definition.proofs.Lookup.{each-def}
 use Rattle.definition.proofs.Readings.{of-reading}
 use Rattle.definition.proofs.Verdicts.{Given, passes, refuses, given-body, given-build}
-use Rattle.definition.proofs.Rules.{closed-texts, Rules, Any-number, Known, RefusalMatches, Fits}
+use Rattle.definition.proofs.Rules.{closed-texts, Rules, Any-number, Unasked, inTable, Known, RefusalMatches, Fits}
 use Rattle.definition.proofs.SaidSubstitute.{def-name, def-body, said-substitute}
 use Rattle.definition.proofs.SaidExpand.{said-expand}
 use Rattle.definition.proofs.WholeMessages.{Well, well-generated, well-reserved, well-duplicate, well-undeclared, well-plain, well-unknown, well-cedarInCondition, well-cedarInValue, well-valueAsCondition, well-conditionAsValue, well-count, well-strayCondition, well-strayWithin, well-straySlot, well-strayField, well-strayOperand, well-binderAsCondition, well-unbound, well-notACondition, well-notAnInterval, well-notATerm, well-notAnIdentifier, well-macroInMacro, well-budget, well-notAPredicate}
 
 -- ------------------------------------------------------------------ the rules
 
-abbrev WellText : ℕ → Text → Type 0
-WellText c t = Well t
+abbrev pub WellText : Entry → Type 0
+WellText e = Well (e .text)
 
-silent : Well []
+pub silent : Well []
 unfolding openUtf8
 silent = tt
 
-whole-rules : (limit file : ℕ) → Rules Well WellText Well Any-number Any-number limit file
+pub whole-rules : (limit file : ℕ) → Rules Well Unasked Unasked WellText Well Any-number Any-number limit file
 whole-rules limit file =
     record {
-      closed = closed-texts (λ t k start. well-generated t k start file);
+      closed = closed-texts Well (λ t k start. well-generated t k start file);
       charged = λ n h. tt;
       says-nothing = silent;
       says-30 = well-unknown;
@@ -66,27 +67,22 @@ whole-rules limit file =
       says-47 = well-notAPredicate;
     }
 
-abbrev WholeEntry : Entry → Type 0
-WholeEntry e = Known Well WellText Any-number e
+abbrev pub WholeEntry : Entry → Type 0
+WholeEntry e = Known Well WellText Any-number Unasked e
 
-known : (es : List Entry) → T (wellTexts es) → All WholeEntry es
-known es h = all-map (λ e k. (k, tt, k)) (all-whole es h)
+pub known : (es : List Entry) → T (wellTexts es) → All WholeEntry es
+known es h = all-map (λ e k. (k, tt, k, tt)) (all-whole es h)
 
-abbrev WholeDef : MacroDef → Type 0
+abbrev pub WholeDef : MacroDef → Type 0
 WholeDef d = All WholeEntry (flatDef d)
 
-known-defs : (ds : List MacroDef) → All WholeEntry (flatDefs ds) → All WholeDef ds
-unfolding flatDefs
-known-defs [] h = all-nil
-known-defs (d ∷ ds) h = all-cons (all-left (flatDef d) _ h) (known-defs ds (all-right (flatDef d) h))
-
-known-registry : (ds : List MacroDef) → T (wellTexts (flatRegistry ds)) → All WholeDef ds
+pub known-registry : (ds : List MacroDef) → T (wellTexts (flatRegistry ds)) → All WholeDef ds
 unfolding flatRegistry
-known-registry ds h = known-defs ds (all-tail (known (flatRegistry ds) h))
+known-registry ds h = each-def ds (all-tail (known (flatRegistry ds) h))
 
 -- ------------------------------------------------------------------ on trees
 
-abbrev WholeRefusal : Refusal → Type 0
+abbrev pub WholeRefusal : Refusal → Type 0
 WholeRefusal r = RefusalMatches Well r
 
 whole-params : (ps : List MacroParam) → All WholeEntry (flatParams ps) → All Well (namesOf ps)
@@ -94,7 +90,7 @@ unfolding flatParams namesOf
 whole-params [] h = all-nil
 whole-params (p ∷ ps) h = all-cons (all-head (all-tail h) .0) (whole-params ps (all-tail (all-tail h)))
 
-whole-check : (def : MacroDef) → WholeDef def → Given WholeRefusal (checkDef def)
+pub whole-check : (def : MacroDef) → WholeDef def → Given WholeRefusal (checkDef def)
 unfolding checkDef flatDef
 whole-check def h =
     let names = whole-params (def .params) (all-left (flatParams (def .params)) _ (all-tail (all-tail (all-tail h)))) in
@@ -106,7 +102,7 @@ whole-check def h =
     })
     (def .body) (all-map (λ e k. k .0) (def-body {P = WholeEntry} def h))
 
-whole-build : (ds : List MacroDef) → All WholeDef ds → Given WholeRefusal (build ds)
+pub whole-build : (ds : List MacroDef) → All WholeDef ds → Given WholeRefusal (build ds)
 whole-build ds h =
     given-build Well (record { reserved = λ n k s. (well-reserved n k, tt); duplicate = λ n k s p. (well-duplicate n k _, tt) }) ds
     (all-map (λ d k. def-name {P = WholeEntry} d k .0) h)
@@ -137,36 +133,36 @@ expand-whole limit file defs c d k =
 -- ------------------------------------------------------------------ on tapes
 
 -- the texts of an accepted tape
-accepted-texts : {A : Type 0} (root : Root A) → Rewrites root → Lawful root → (bytes : List ℕ) → Bytes bytes → (a : A)
+pub accepted-texts : {A : Type 0} (root : Root A) → Rewrites root → Lawful root → (bytes : List ℕ) → Bytes bytes → (a : A)
     → read root bytes ≡ Reading.accepted a → T (wellTexts (root .flat a))
 accepted-texts root rewrites law bytes q a h = read-on-tape root rewrites law bytes q a h .range .texts
 
-abbrev SaysWhole : {A : Type 0} → (A → List ℕ) → Buffers → Outcome A → Type 0
+abbrev pub SaysWhole : {A : Type 0} → (A → List ℕ) → Buffers → Outcome A → Type 0
 SaysWhole tape b o = WholeMessage (answer tape b o)
 
 -- no message, or one that stands whole at the start of its buffer
-says-done : {A : Type 0} (tape : A → List ℕ) (b : Buffers) (a : A) (n : ℕ) → SaysWhole tape b (Outcome.done a n)
+pub says-done : {A : Type 0} (tape : A → List ℕ) (b : Buffers) (a : A) (n : ℕ) → SaysWhole tape b (Outcome.done a n)
 unfolding answer openUtf8
 says-done tape b a n = tt
 
-says-refused : {A : Type 0} (tape : A → List ℕ) (b : Buffers) (r : Refusal) (n : ℕ) → Well (r .message) → SaysWhole tape b (Outcome.refused r n)
+pub says-refused : {A : Type 0} (tape : A → List ℕ) (b : Buffers) (r : Refusal) (n : ℕ) → Well (r .message) → SaysWhole tape b (Outcome.refused r n)
 unfolding answer padded
 says-refused tape b r n h =
     rw (take-at (r .message) (replicate (b .messageLength - length (r .message)) 0) (length (r .message)) refl) h
 
-says-bare : {A : Type 0} (tape : A → List ℕ) (b : Buffers) (number : ℕ) → SaysWhole tape b (numberAlone number)
+pub says-bare : {A : Type 0} (tape : A → List ℕ) (b : Buffers) (number : ℕ) → SaysWhole tape b (numberAlone number)
 unfolding numberAlone
 says-bare tape b number = says-refused tape b _ 0 silent
 
-abbrev nothing : Unit {0} → List ℕ
+abbrev pub nothing : Unit {0} → List ℕ
 nothing u = []
 
-says-verdict : (m : ℕ) {v : Verdict} → Given WholeRefusal v → SaysWhole nothing (messageAlone m) (verdict v)
+pub says-verdict : (m : ℕ) {v : Verdict} → Given WholeRefusal v → SaysWhole nothing (messageAlone m) (verdict v)
 unfolding verdict
 says-verdict m passes = says-done nothing (messageAlone m) tt 0
 says-verdict m (refuses {r = r} h) = says-refused nothing (messageAlone m) r 0 (h .0)
 
-says-message : (m : ℕ) (o : Outcome (Unit {0})) → SaysWhole nothing (messageAlone m) o → WholeMessage (messageAnswer m o)
+pub says-message : (m : ℕ) (o : Outcome (Unit {0})) → SaysWhole nothing (messageAlone m) o → WholeMessage (messageAnswer m o)
 unfolding messageAnswer
 says-message m o h = go (leb 2048 m)
   where
@@ -192,31 +188,31 @@ registry-whole m registry q =
 
 -- ------------------------------------------------------------------ substitution and expansion
 
-abbrev treeTape : Tree → List ℕ
+abbrev pub treeTape : Tree → List ℕ
 treeTape t = encode (flatTree t)
 
-abbrev Answered : Buffers → Outcome Tree → Type 0
+abbrev pub Answered : Buffers → Outcome Tree → Type 0
 Answered b o = WholeAnswer b (answer treeTape b o)
 
-abbrev WholeFits : Outcome Tree → Type 0
+abbrev pub WholeFits : Outcome Tree → Type 0
 WholeFits o = Fits Well WellText Any-number (λ t. t) o
 
 -- the answer of an outcome, once the buffers are long enough
-answer-whole : (b : Buffers) {o : Outcome Tree} → WholeFits o → WholeAnswer b (answer treeTape b o)
+pub answer-whole : (b : Buffers) {o : Outcome Tree} → WholeFits o → WholeAnswer b (answer treeTape b o)
 unfolding answer
 answer-whole b (good-done {a = t} {n = n} k) =
     record { whole-message = says-done treeTape b t n; whole-result = λ e. (t, refl, whole-all (k .1)) }
 answer-whole b (good-refused {r = r} {n = n} k) =
     record {
       whole-message = says-refused treeTape b r n (k .0 .0);
-      whole-result = λ e. absurd (subst (λ (number : ℕ). T (not (eqb number 0))) e (k .0 .1));
+      whole-result = λ e. absurd (subst (λ (number : ℕ). T (inTable number)) e (k .0 .1));
     }
 
-bare-whole : (b : Buffers) (number : ℕ) → T (not (eqb number 0)) → WholeAnswer b (answer treeTape b (numberAlone number))
+pub bare-whole : (b : Buffers) (number : ℕ) → T (inTable number) → WholeAnswer b (answer treeTape b (numberAlone number))
 unfolding numberAlone
 bare-whole b number h = answer-whole b (good-refused ((silent, h), tt))
 
-tree-whole : (b : Buffers) (o : Outcome Tree) → WholeAnswer b (answer treeTape b o) → WholeAnswer b (treeAnswer b o)
+pub tree-whole : (b : Buffers) (o : Outcome Tree) → WholeAnswer b (answer treeTape b o) → WholeAnswer b (treeAnswer b o)
 unfolding treeAnswer
 tree-whole b o h = go (longBuffers b)
   where

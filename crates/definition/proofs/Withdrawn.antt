@@ -16,7 +16,7 @@ use Rattle.format.specs.Replace.{replaceDef, replaceDefs}
 use Rattle.format.specs.DeMorgan.{deMorgan}
 use Rattle.format.specs.Tape.{Reading, Root, conditionRoot, callRoot, definitionRoot, registryRoot, accept, read, rewritten}
 use Rattle.format.specs.Rewritten.{weighted, mapReading}
-use Rattle.format.proofs.All.{All, all-nil, all-cons, all-tail, all-left, all-right}
+use Rattle.format.proofs.All.{All, all-nil, all-cons, all-tail, all-map}
 use Rattle.format.proofs.Becomes.{NoOr as NoOrEntry, Becomes, nothing, kept, joined, parted, tally-append, becomes-condition, becomes-call, becomes-definition, become-no-or}
 use Rattle.format.proofs.Exact.{lawful-definition, lawful-registry}
 use Rattle.format.proofs.Rewritten.{no-holds, read-no-or, Rewrites, rewrites-condition, rewrites-call, rewrites-definition, rewrites-registry, read-as}
@@ -26,12 +26,13 @@ use Rattle.definition.specs.Size.{size}
 use Rattle.definition.specs.Answers.{Buffers, answer, numberAlone, reading, longBuffers, treeAnswer, expandTapes, expandAnswer, substituteTapes, substituteAnswer, verdict, messageAnswer, checkAnswer, registryAnswer}
 use Rattle.definition.specs.Withdrawn.{SizeOfRewritten, CheckAsGiven, RegistryAsGiven, NoOr, SubstituteNoOr, ExpandNoOr, NoOrResult, SubstituteResultNoOr, ExpandResultNoOr}
 use Rattle.definition.proofs.Size.{size-append}
+use Rattle.definition.proofs.Lookup.{each-def}
 use Rattle.definition.proofs.Readings.{of-reading}
 use Rattle.definition.proofs.Good.{good-done, good-refused}
 use Rattle.definition.proofs.SameVerdicts.{same-check, same-build}
 use Rattle.definition.proofs.Verdicts.{Any}
-use Rattle.definition.proofs.Rules.{Closed, Each, Bears}
-use Rattle.definition.proofs.Borne.{substitute-bears, expand-bears}
+use Rattle.definition.proofs.Rules.{Closed, Unasked, inTable, Bears}
+use Rattle.definition.proofs.Borne.{substitute-bears, expand-bears, all-unasked}
 
 -- ------------------------------------------------------------------ check and registry, from the tape as it is given
 
@@ -74,41 +75,45 @@ size-of-rewritten c = size-becomes (becomes-condition c)
 
 -- ------------------------------------------------------------------ results
 
-NotOr : ℕ → Text → Type 0
-NotOr c t = eqb c 2 ≡ false
-
-closed : (file : ℕ) → Closed Any NotOr file
-unfolding NotOr
-closed file = record { made-term = λ t k m start. refl; made-slot = λ t k m start. refl; named-slot = λ k h. refl; call-term = λ h. refl }
+closed : (file : ℕ) → Closed Any Unasked Unasked NoOrEntry file
+closed file =
+    record {
+      made-term = λ t k m b span i. refl;
+      made-slot = λ t k m b span i. refl;
+      named-slot = λ t m. refl;
+      call-term = λ m. refl;
+      listed = λ k l m. refl;
+      arrayed = λ k l m. refl;
+    }
 
 abbrev NoOrTree : Outcome Tree → Type 0
-NoOrTree o = Bears NotOr flatTree o
+NoOrTree o = Bears NoOrEntry flatTree o
 
 no-or : {o : Outcome Tree} → NoOrTree o → NoOr o
-unfolding NotOr
 no-or (good-done {a = a} h) t charged e =
     let same : a ≡ t = cc in subst (λ (x : Tree). holds 2 (flatTree x) ≡ false) same (no-holds h)
 no-or (good-refused r) t charged e = let z : _≡_ {A = ℕ} 0 1 = cc in absurd (omega arith)
 
 pub substitute-no-or : SubstituteNoOr
-unfolding NotOr
 substitute-no-or limit file def call =
-    no-or (substitute-bears limit file (closed file) _ _ (become-no-or (becomes-definition def)) (become-no-or (becomes-call call)))
+    no-or (substitute-bears limit file (closed file) _ _ (become-no-or (becomes-definition def)) (all-unasked _) (become-no-or (becomes-call call)) (all-unasked _))
 
-no-or-defs : (defs : List MacroDef) → All (λ (d : MacroDef). Each NotOr (flatDef d)) (replaceDefs deMorgan defs)
-unfolding NotOr replaceDefs deMorgan
+abbrev NoOrDef : MacroDef → Type 0
+NoOrDef d = All NoOrEntry (flatDef d) × All Unasked (flatDef d)
+
+no-or-defs : (defs : List MacroDef) → All NoOrDef (replaceDefs deMorgan defs)
+unfolding replaceDefs deMorgan
 no-or-defs [] = all-nil
-no-or-defs (d ∷ ds) = all-cons (become-no-or (becomes-definition d)) (no-or-defs ds)
+no-or-defs (d ∷ ds) = all-cons (become-no-or (becomes-definition d), all-unasked _) (no-or-defs ds)
 
 pub expand-no-or : ExpandNoOr
-unfolding NotOr
 expand-no-or limit file defs c =
-    no-or (expand-bears limit file (closed file) _ (no-or-defs defs) _ (become-no-or (becomes-condition c)))
+    no-or (expand-bears limit file (closed file) _ (no-or-defs defs) _ (become-no-or (becomes-condition c)) (all-unasked _))
 
 -- ------------------------------------------------------------------ on tapes
 
 tree-no-or : (b : Buffers) {o : Outcome Tree} → NoOrTree o → NoOrResult b (treeAnswer b o)
-unfolding treeAnswer answer numberAlone NotOr
+unfolding treeAnswer answer numberAlone
 tree-no-or b {o} g = go (longBuffers b)
   where
     tape : Tree → List ℕ
@@ -116,7 +121,7 @@ tree-no-or b {o} g = go (longBuffers b)
 
     made : {p : Outcome Tree} → NoOrTree p → NoOrResult b (answer tape b p)
     made (good-done {a = t} h) e = (t, refl, no-holds h)
-    made (good-refused {r = r} t) e = absurd (subst (λ (k : ℕ). T (not (eqb k 0))) e t)
+    made (good-refused {r = r} t) e = absurd (subst (λ (k : ℕ). T (inTable k)) e t)
 
     go : (long : Bool) → NoOrResult b (answer tape b (elim long [ true ↦ o | false ↦ numberAlone 1 ]))
     go true = made g
@@ -130,22 +135,17 @@ read-carries root r bytes k f =
     of-reading (λ (o : Outcome Tree). NoOrTree o) (read root bytes) k (good-refused tt) (good-refused tt) λ a e. f a (read-no-or root r bytes a e)
 
 pub substitute-result-no-or : SubstituteResultNoOr
-unfolding substituteAnswer substituteTapes NotOr definitionRoot callRoot
+unfolding substituteAnswer substituteTapes definitionRoot callRoot
 substitute-result-no-or b limit file definition input =
     tree-no-or b
     (read-carries definitionRoot rewrites-definition definition _ λ def d.
     read-carries callRoot rewrites-call input _ λ call c.
-    substitute-bears limit file (closed file) def call d c)
-
-each-def : (defs : List MacroDef) → All NoOrEntry (flatDefs defs) → All (λ (d : MacroDef). Each NotOr (flatDef d)) defs
-unfolding flatDefs NotOr
-each-def [] h = all-nil
-each-def (d ∷ ds) h = all-cons (all-left (flatDef d) _ h) (each-def ds (all-right (flatDef d) h))
+    substitute-bears limit file (closed file) def call d (all-unasked _) c (all-unasked _))
 
 pub expand-result-no-or : ExpandResultNoOr
-unfolding expandAnswer expandTapes NotOr registryRoot conditionRoot flatRegistry
+unfolding expandAnswer expandTapes registryRoot conditionRoot flatRegistry
 expand-result-no-or b limit file registry input =
     tree-no-or b
     (read-carries registryRoot rewrites-registry registry _ λ defs d.
     read-carries conditionRoot rewrites-condition input _ λ condition c.
-    expand-bears limit file (closed file) defs (each-def defs (all-tail d)) condition c)
+    expand-bears limit file (closed file) defs (all-map (λ x h. (h, all-unasked (flatDef x))) (each-def defs (all-tail d))) condition c (all-unasked _))

@@ -23,4 +23,7 @@ pub mod Kept
 pub mod Whole
 pub mod Withdrawn
 pub mod Older
+pub mod Agree
+pub mod Judge
+pub mod JudgeCases
 pub mod Cases

@@ -9,6 +9,7 @@ pub mod Builds
 pub mod Accepted
 pub mod Encodes
 pub mod Exact
+pub mod Behind
 pub mod Registries
 pub mod Stands
 pub mod Deep

@@ -12,6 +12,7 @@ use Rattle.format.specs.Utf8.{wellTexts}
 use Rattle.format.specs.Ast.{Condition, Term, Call, Tree, MacroDef}
 use Rattle.format.specs.Flat.{flatCondition, flatTerm, flatCall, flatTree, flatDef, flatRegistry}
 use Rattle.format.specs.Macro.{isCode}
+use Rattle.format.specs.Names.{isName}
 use Rattle.format.specs.Limits.{nodeWeight, callWeight, deepCondition, deepTerm, deepCall, deepTree, deepBody, deepBodies, fitsSizes, fitsDepths}
 use Rattle.format.specs.Replace.{Replacement, replaceCondition, replaceTerm, replaceCall, replaceTree, replaceDef, replaceDefs}
 use Rattle.format.specs.DeMorgan.{deMorgan}
@@ -99,7 +100,7 @@ longestText c = elim (isCode (22 ∷ 23 ∷ []) c) [ true ↦ 255 | false ↦ 64
 
 -- where names, the texts of 27 and 43, may have more bytes (document 02, points 3 and 10)
 unfoldable pub longestNamed : (most code : ℕ) → ℕ
-longestNamed most c = elim (isCode (27 ∷ 43 ∷ []) c) [ true ↦ most | false ↦ longestText c ]
+longestNamed most c = elim (isName c) [ true ↦ most | false ↦ longestText c ]
 
 unfoldable pub textsWithin : (longest : ℕ → ℕ) → List Entry → Bool
 textsWithin longest [] = true

@@ -12,6 +12,7 @@ use lib.ListN.{List·getD-eq-default}
 use Rattle.format.specs.DeMorgan.{orWeight}
 use Rattle.format.specs.Limits.{isNode, isCall, weigh, nodeWeight, callWeight}
 use Rattle.format.specs.Macro.{isCode}
+use Rattle.format.specs.Names.{isName}
 use Rattle.format.specs.Tape.{isText, longestText, longestNamed}
 use Rattle.format.proofs.Tests.{and-left, and-right, is-false}
 use Rattle.format.proofs.Weights.{deMorgan-outweighs}
@@ -110,7 +111,7 @@ call-marks =
 
 -- with a figure for names the longest texts are format's
 pub longest-marks : (most c : ℕ) → longestOf most (rowAt temporalWords c) ≡ longestNamed most c
-unfolding longestNamed longestText
+unfolding isName longestNamed longestText
 longest-marks most c = rw (name-marks c, long-marks c) (go (isCode (27 ∷ 43 ∷ []) c) (isCode (22 ∷ 23 ∷ []) c))
   where
     go : (name long : Bool)
@@ -122,7 +123,7 @@ longest-marks most c = rw (name-marks c, long-marks c) (go (isCode (27 ∷ 43 �
 
 -- and with 64 they are those of the other inputs
 pub longest-64 : (c : ℕ) → longestNamed 64 c ≡ longestText c
-unfolding longestNamed longestText isCode
+unfolding isName longestNamed longestText isCode
 longest-64 =
     everywhere (λ c h. eqb→eq _ _ (at (λ (k : ℕ). eqb (longestNamed 64 k) (longestText k)) 0 77 tt c (omega arith) h))
     (λ c h. rw (longestNamed, no-code (27 ∷ 43 ∷ []) c tt h))

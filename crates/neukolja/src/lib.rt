@@ -7,6 +7,7 @@ ghost use mathlib.Core.List.{[]};
 ghost use mathlib.Core.Path.{_≡_};
 ghost use lib.ListN.{length};
 ghost use Rattle.definition.specs.Answers.{checkAnswer, registryAnswer, substituteAnswer, expandAnswer};
+ghost use Rattle.definition.specs.Judge.{judgeAnswer};
 ghost use Rattle.definition.specs.Older.{olderAnswer};
 ghost use Rattle.definition.specs.Counts.{freshCounts, expandCounts};
 ghost use Rattle.definition.specs.Preview.{previewAnswer};
@@ -148,6 +149,35 @@ pub extern "C" fn neukolja_preview<'a>(
 {
     let r = preview::preview(registry, input, limit, file, work, message);
     write_seven(r, answer);
+}
+
+#[no_mangle]
+pub extern "C" fn neukolja_judge<'a>(
+    registry: &'a [u8],
+    input: &'a [u8],
+    supplied: &'a [u8],
+    limit: u32,
+    file: u16,
+    result: &mut [u8],
+    work: &mut [u8],
+    message: &mut [u8],
+    answer: &mut [u64; 5],
+)
+    ensures { λ _. ⌜ wordsWith (now (answer .exit)) (now (result .exit)) (now (work .exit)) (now (message .exit)) ≡ judgeAnswer (buffers (length (now (result .entry))) (length (now (work .entry))) (length (now (message .entry)))) limit file (now (registry .entry)) (now (input .entry)) (now (supplied .entry)) ⌝ }
+{
+    write_words(
+        judge::judge(
+            registry,
+            input,
+            supplied,
+            limit,
+            file,
+            result,
+            work,
+            message,
+        ),
+        answer,
+    );
 }
 
 #[no_mangle]
