@@ -3,18 +3,10 @@
 
 use std::path::Path;
 
-const OPERATIONS: [&str; 11] = [
-    "check",
-    "registry",
-    "substitute",
-    "expand",
-    "preview",
-    "check_library",
-    "check_at",
-    "judge",
-    "merge",
-    "older",
-    "profile",
+#[rustfmt::skip]
+const OPERATIONS: [&str; 14] = [
+    "check", "registry", "substitute", "expand", "preview", "check_library", "check_at", "judge", "merge", "older",
+    "profile", "provider", "argument_to_term", "term_to_argument",
 ];
 
 fn main() {

@@ -90,8 +90,10 @@ enum {
     NEUKOLJA_OUT_OF_RANGE = 52,         /* the older tape alone: seven times an amount of weeks has no 64 bits */
     NEUKOLJA_AGGREGATE = 53,            /* the profile alone: an aggregate (30) */
     NEUKOLJA_TOO_MANY_NODES = 54,       /* .. a seventeenth node */
-    NEUKOLJA_TOO_LONG_INTERVAL = 55     /* .. an interval outside 0 to one day; has the span of the nearest
+    NEUKOLJA_TOO_LONG_INTERVAL = 55,    /* .. an interval outside 0 to one day; has the span of the nearest
                                            condition around it */
+    NEUKOLJA_HAS_A_FIELD = 56,          /* a field (71) anywhere in an argument that is to become a term */
+    NEUKOLJA_NOT_AN_ARGUMENT = 58       /* a term that no argument becomes */
 };
 
 /* The body check of one definition, a tape whose root is 60. Nothing is charged.
@@ -214,6 +216,25 @@ void neukolja_older(const uint8_t *tape, size_t tape_length,
  * do. It has no buffers and no message; nothing is charged. */
 void neukolja_profile(const uint8_t *condition, size_t condition_length,
                       uint64_t answer[5]);
+
+/* Whether a tape is one of a provider call (70) or of a lone argument (71 to 76): 0, 2 or 3. It has the layout of every other tape;
+ * nesting is counted over 71 to 76, and a text of 72 or 74 may have 255 bytes. No buffers; nothing is charged. */
+void neukolja_provider(const uint8_t *tape, size_t tape_length,
+                       uint64_t answer[5]);
+
+/* A lone argument (71 to 76; a call is 2) as a term: 72 becomes 23, 73 21, 74 22, 75 24, and a set (76) an array (29); 56 if it has a
+ * field (71) anywhere. No message; nothing is charged.
+ * result: the tape of the term, then zeros to the end; all zeros on a refusal. */
+void neukolja_argument_to_term(const uint8_t *tape, size_t tape_length,
+                               uint8_t *result, size_t result_length,
+                               uint64_t answer[5]);
+
+/* And back: a lone term (20 to 33) as an argument; 58 unless it is built of 21, 22, 23, 24 and 29 alone. What was turned and turned
+ * back is the same tape. No message; nothing is charged.
+ * result: the tape of the argument, then zeros to the end; all zeros on a refusal. */
+void neukolja_term_to_argument(const uint8_t *tape, size_t tape_length,
+                               uint8_t *result, size_t result_length,
+                               uint64_t answer[5]);
 
 #ifdef __cplusplus
 }

@@ -5,6 +5,7 @@ use crate::families::{since, tp};
 use crate::inputs::{call, condition, condition_call, definition, hours, list, predicate};
 use differential::case::{Case, Operation};
 use differential::compare::Machine;
+use differential::provider;
 use differential::tape::{Node, encode};
 use std::ffi::c_void;
 
@@ -15,29 +16,45 @@ pub fn measured(machine: &mut dyn Machine) -> Vec<(Operation, &'static str, usiz
 }
 
 fn deepest() -> Vec<(&'static str, Case)> {
-    let registry = |left| encode(&list(1, vec![deep_definition(left), passing_on()]));
-    let mut all = Vec::new();
-    for (left, body, rule) in [
+    let sides = [
         (true, "a body of 62 Since to the left", "60 Since to the left, four calls, a body of 62 Since"),
         (false, "a body of 62 Since to the right", "60 Since to the right, four calls, a body of 62 Since"),
-    ] {
-        let (one, called) = (encode(&deep_definition(left)), encode(&call("deep", 7, vec![hours(1)])));
-        all.push((body, Case::new(Operation::Check, 0, vec![one.clone()])));
-        all.push((body, Case::new(Operation::Registry, 0, vec![registry(left)])));
-        all.push((body, Case::new(Operation::CheckLibrary, 0, vec![registry(left)])));
-        all.push((body, Case::new(Operation::CheckAt, 0, vec![registry(left)])));
-        all.push((body, Case::new(Operation::Substitute, u32::MAX, vec![one, called])));
-        all.push((body, Case::new(Operation::Merge, 0, vec![registry(left), registry(left)])));
-        all.push((body, Case::new(Operation::Older, 0, vec![registry(left)])));
-        let deep = encode(&deep_rule(left));
-        all.push((rule, Case::new(Operation::Judge, u32::MAX, vec![registry(left), deep.clone(), deep.clone()])));
-        all.push((rule, Case::new(Operation::Profile, 0, vec![deep.clone()])));
-        for operation in [Operation::Expand, Operation::Preview] {
-            all.push((rule, Case::new(operation, u32::MAX, vec![registry(left), deep.clone()])));
-        }
+    ];
+    let mut all: Vec<_> = sides.into_iter().flat_map(|(left, body, rule)| made_of_since(left, body, rule)).collect();
+    let sets = (0..63).fold(Node::new(75, 0, vec![]), |inner, _| Node::counted(76, 1, vec![inner]));
+    let term = provider::term_of(&sets).expect("no field");
+    for (operation, tree) in
+        [(Operation::Provider, &sets), (Operation::ArgumentToTerm, &sets), (Operation::TermToArgument, &term)]
+    {
+        all.push(("64 levels", Case::new(operation, 0, vec![encode(tree)])));
     }
     all.sort_by_key(|(_, case)| case.operation);
     all
+}
+
+fn made_of_since(left: bool, body: &'static str, rule: &'static str) -> Vec<(&'static str, Case)> {
+    let registry = encode(&list(1, vec![deep_definition(left), passing_on()]));
+    let (one, called) = (encode(&deep_definition(left)), encode(&call("deep", 7, vec![hours(1)])));
+    let deep = encode(&deep_rule(left));
+    let bodies = [
+        (Operation::Check, vec![one.clone()]),
+        (Operation::Registry, vec![registry.clone()]),
+        (Operation::Substitute, vec![one, called]),
+        (Operation::CheckLibrary, vec![registry.clone()]),
+        (Operation::CheckAt, vec![registry.clone()]),
+        (Operation::Merge, vec![registry.clone(), registry.clone()]),
+        (Operation::Older, vec![registry.clone()]),
+    ];
+    let rules = [
+        (Operation::Expand, vec![registry.clone(), deep.clone()]),
+        (Operation::Preview, vec![registry.clone(), deep.clone()]),
+        (Operation::Judge, vec![registry, deep.clone(), deep.clone()]),
+        (Operation::Profile, vec![deep]),
+    ];
+    let bodies = bodies.into_iter().map(|(operation, tapes)| (body, operation, tapes));
+    let rules = rules.into_iter().map(|(operation, tapes)| (rule, operation, tapes));
+    let case = |(what, operation, tapes)| (what, Case::new(operation, u32::MAX, tapes));
+    bodies.chain(rules).map(case).collect()
 }
 
 /// Nesting 64, as deep as may be: 62 Since, a predicate, and the term in its field.

@@ -74,6 +74,16 @@ mod functions {
         );
         #[cfg(archive_has = "profile")]
         fn neukolja_profile(condition: *const u8, condition_len: usize, answer: *mut [u64; 5]);
+        #[cfg(archive_has = "provider")]
+        fn neukolja_provider(tape: *const u8, tape_len: usize, answer: *mut [u64; 5]);
+        #[cfg(archive_has = "argument_to_term")]
+        fn neukolja_argument_to_term(
+            tape: *const u8, tape_len: usize, result: *mut u8, result_len: usize, answer: *mut [u64; 5],
+        );
+        #[cfg(archive_has = "term_to_argument")]
+        fn neukolja_term_to_argument(
+            tape: *const u8, tape_len: usize, result: *mut u8, result_len: usize, answer: *mut [u64; 5],
+        );
     }
 
     pub struct Archive;
@@ -92,6 +102,9 @@ mod functions {
                 Operation::Merge => cfg!(archive_has = "merge"),
                 Operation::Older => cfg!(archive_has = "older"),
                 Operation::Profile => cfg!(archive_has = "profile"),
+                Operation::Provider => cfg!(archive_has = "provider"),
+                Operation::ArgumentToTerm => cfg!(archive_has = "argument_to_term"),
+                Operation::TermToArgument => cfg!(archive_has = "term_to_argument"),
             }
         }
 
@@ -150,6 +163,16 @@ mod functions {
                     Operation::Older => neukolja_older(a.as_ptr(), a.len(), r.as_mut_ptr(), r.len(), answer),
                     #[cfg(archive_has = "profile")]
                     Operation::Profile => neukolja_profile(a.as_ptr(), a.len(), answer),
+                    #[cfg(archive_has = "provider")]
+                    Operation::Provider => neukolja_provider(a.as_ptr(), a.len(), answer),
+                    #[cfg(archive_has = "argument_to_term")]
+                    Operation::ArgumentToTerm => {
+                        neukolja_argument_to_term(a.as_ptr(), a.len(), r.as_mut_ptr(), r.len(), answer)
+                    }
+                    #[cfg(archive_has = "term_to_argument")]
+                    Operation::TermToArgument => {
+                        neukolja_term_to_argument(a.as_ptr(), a.len(), r.as_mut_ptr(), r.len(), answer)
+                    }
                     #[allow(unreachable_patterns)]
                     _ => unreachable!("the archive has no {}", case.operation.name()),
                 }

@@ -15,9 +15,12 @@ pub enum Operation {
     Merge,
     Older,
     Profile,
+    Provider,
+    ArgumentToTerm,
+    TermToArgument,
 }
 
-pub const OPERATIONS: [Operation; 11] = [
+pub const OPERATIONS: [Operation; 14] = [
     Operation::Check,
     Operation::Registry,
     Operation::Substitute,
@@ -29,6 +32,9 @@ pub const OPERATIONS: [Operation; 11] = [
     Operation::Merge,
     Operation::Older,
     Operation::Profile,
+    Operation::Provider,
+    Operation::ArgumentToTerm,
+    Operation::TermToArgument,
 ];
 
 impl Operation {
@@ -45,6 +51,9 @@ impl Operation {
             Operation::Merge => "merge",
             Operation::Older => "older",
             Operation::Profile => "profile",
+            Operation::Provider => "provider",
+            Operation::ArgumentToTerm => "argument_to_term",
+            Operation::TermToArgument => "term_to_argument",
         }
     }
 
@@ -62,6 +71,9 @@ impl Operation {
             Operation::Merge => 9,
             Operation::Older => 10,
             Operation::Profile => 11,
+            Operation::Provider => 12,
+            Operation::ArgumentToTerm => 13,
+            Operation::TermToArgument => 14,
         }
     }
 
@@ -76,6 +88,9 @@ impl Operation {
             Operation::Merge => &[Sort::Definitions, Sort::Definitions],
             Operation::Older => &[Sort::Any],
             Operation::Profile => &[Sort::Condition],
+            Operation::Provider => &[Sort::Provider],
+            Operation::ArgumentToTerm => &[Sort::ProviderArgument],
+            Operation::TermToArgument => &[Sort::Term],
         }
     }
 
@@ -95,8 +110,8 @@ impl Operation {
             Operation::CheckLibrary | Operation::Merge => [LEAST_RESULT, 0, LEAST_MESSAGE],
             Operation::Substitute | Operation::Expand | Operation::Judge => [LEAST_RESULT, LEAST_WORK, LEAST_MESSAGE],
             Operation::Preview => [0, LEAST_WORK, LEAST_MESSAGE],
-            Operation::Older => [LEAST_RESULT, 0, 0],
-            Operation::Profile => [0; 3],
+            Operation::Older | Operation::ArgumentToTerm | Operation::TermToArgument => [LEAST_RESULT, 0, 0],
+            Operation::Profile | Operation::Provider => [0; 3],
         }
     }
 

@@ -4,6 +4,7 @@ use crate::case::{Answer, COUNTS, Case, Counts, Operation, Words};
 use crate::judge::{self, Names};
 use crate::model::{self, Notes, TooLarge};
 use crate::profile;
+use crate::provider;
 use crate::tape::{self, LARGEST, LARGEST_TEXT, Node, Sort};
 use crate::upstream::{self, End, Reach, Run};
 use std::collections::BTreeSet;
@@ -63,6 +64,9 @@ fn hear_upstream(case: &Case, answer: &Answer, notes: &Notes) -> Result<Witness,
     }
     if case.operation == Operation::Older {
         return older_is_read(&notes.trees[0], notes.result.as_ref()).map(|()| Witness::ModelAlone);
+    }
+    if let Operation::Provider | Operation::ArgumentToTerm | Operation::TermToArgument = case.operation {
+        return hear_of_provider(case.operation, &notes.trees[0], notes.result.as_ref());
     }
     if case.operation == Operation::Profile {
         same("what the number says", &profile::is_so(answer.number, &notes.trees[0]), &true)?;
@@ -131,6 +135,23 @@ fn run(case: &Case, trees: &[Node], reach: Reach) -> Run {
         (Operation::Judge, [definitions, condition, _]) => upstream::expand(definitions, condition, reach),
         _ => unreachable!("all tapes were read"),
     }
+}
+
+/// The same trees in upstream's types, turned there; and what was turned, turned back.
+fn hear_of_provider(operation: Operation, tree: &Node, result: Option<&Node>) -> Result<Witness, String> {
+    let (turned, back) = match operation {
+        Operation::ArgumentToTerm => (upstream::argument_as_term(tree), result.and_then(provider::argument_of)),
+        Operation::TermToArgument => {
+            (upstream::term_as_argument(&tape::weeks_as_days(tree)), result.and_then(provider::term_of))
+        }
+        _ => {
+            same("the tree in upstream's types", &upstream::provider_tree(tree), tree)?;
+            return Ok(Witness::Upstream);
+        }
+    };
+    same("what it becomes in upstream's types", &turned.as_ref(), &result)?;
+    same("what it becomes, turned back", &back.as_ref(), &result.map(|_| tree))?;
+    Ok(Witness::Upstream)
 }
 
 /// A condition that passes the profile check, with no call, sigil or refinement and no long name, is expanded to itself.

@@ -96,7 +96,7 @@ fn change_a_value(random: &mut Random, tape: &mut [u8], parts: &Parts) {
 
 fn change_a_code(random: &mut Random, tape: &mut [u8], parts: &Parts) {
     if parts.entries > 0 {
-        tape[parts.codes + random.below(parts.entries)] = random.below(70) as u8;
+        tape[parts.codes + random.below(parts.entries)] = random.below(80) as u8;
     }
 }
 

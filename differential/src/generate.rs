@@ -7,6 +7,7 @@ use crate::judge;
 use crate::merge;
 use crate::model::{self, Walk};
 use crate::profile;
+use crate::provider;
 use crate::random::Random;
 use crate::tape::{self, LARGEST_CALLS, LARGEST_PARAMETERS, LARGEST_TEXT, Node, UNBOUNDED};
 use crate::texts;
@@ -14,7 +15,7 @@ use crate::trees::{DEPTH, Ground, MOST_DEFINITIONS, Macro, Style, Trees};
 
 /// The operation of a case is drawn first.
 fn draw(random: &mut Random) -> Operation {
-    OPERATIONS[random.weighted(&[10, 6, 23, 27, 5, 4, 3, 8, 6, 4, 4])]
+    OPERATIONS[random.weighted(&[10, 6, 21, 25, 5, 3, 3, 8, 6, 3, 4, 2, 2, 2])]
 }
 
 pub fn operation(seed: u64, index: u64) -> Operation {
@@ -114,6 +115,15 @@ fn input(random: &mut Random, operation: Operation) -> Input {
             g.style.weeks = *g.random.pick(&[0, 20, 60, 60]);
             g.style.wild = *g.random.pick(&[0, 0, 10, 50]);
             Input { first: any_root(g), second: None }
+        }
+        Operation::Provider if g.random.chance(50) => Input { first: provider::call(g, DEPTH), second: None },
+        Operation::Provider | Operation::ArgumentToTerm => {
+            let fields = g.random.chance(if operation == Operation::Provider { 60 } else { 25 });
+            Input { first: provider::argument(g, DEPTH, fields), second: None }
+        }
+        Operation::TermToArgument => {
+            let term = provider::term_of(&provider::argument(g, DEPTH, false)).expect("no field");
+            Input { first: if g.random.chance(75) { term } else { g.term(Ground::Hidden, DEPTH) }, second: None }
         }
         Operation::Profile => {
             g.style.day = true;
@@ -224,8 +234,8 @@ fn grow_a_tape(random: &mut Random, tree: &mut Node) {
         return;
     }
     let parts = match tree.code {
-        60 => std::slice::from_mut(tree),
-        54 => &mut tree.children[1].children[..],
+        60 | 71..=76 => std::slice::from_mut(tree),
+        54 | 70 => &mut tree.children[1].children[..],
         _ => &mut tree.children[..],
     };
     if parts.is_empty() {
@@ -235,8 +245,11 @@ fn grow_a_tape(random: &mut Random, tree: &mut Node) {
     // Entries and text are the whole's, but nesting is that of the part which grows.
     let now = if figure == Figure::Nesting { measure(&parts[i]) } else { whole };
     if let Some(more) = brim::missing(random, figure, &now) {
-        let inside = if parts[i].code == 60 { &mut parts[i].children[2] } else { &mut parts[i] };
-        brim::grow_inside(inside, figure, more);
+        match parts[i].code {
+            60 => drop(brim::grow_inside(&mut parts[i].children[2], figure, more)),
+            71..=76 => parts[i] = provider::grow(parts[i].clone(), figure, more).unwrap_or(parts[i].clone()),
+            _ => drop(brim::grow_inside(&mut parts[i], figure, more)),
+        }
     }
 }
 
@@ -288,6 +301,11 @@ fn many_calls(random: &mut Random, input: &mut Input, operation: Operation) {
         Operation::Substitute => input.second = Some(calls),
         Operation::Expand | Operation::Preview | Operation::Judge => input.second = Some(condition),
         Operation::Profile => input.first = condition,
+        Operation::TermToArgument => input.first = as_value(calls),
+        Operation::Provider | Operation::ArgumentToTerm => {
+            let bools = vec![Node::new(75, 1, vec![]); LARGEST_PARAMETERS + random.below(4) - 1];
+            input.first = Node::counted(76, 1, bools);
+        }
         Operation::Older => input.first = if random.chance(50) { calls } else { condition },
         // A body with calls is accepted, and refused by its check.
         Operation::Check => input.first.children[2] = Node::new(62, 0, vec![condition]),
@@ -309,6 +327,7 @@ fn result_at_a_limit(random: &mut Random, operation: Operation, file: u16) -> In
             at_a_limit(random, operation)
         }
         Operation::Older | Operation::Profile => at_a_limit(random, operation),
+        Operation::Provider | Operation::ArgumentToTerm | Operation::TermToArgument => at_a_limit(random, operation),
         Operation::Merge => merge_at_a_limit(random, figure),
         Operation::Substitute => {
             let mut input = multiplying(random, figure);
@@ -553,8 +572,21 @@ fn spoil(random: &mut Random, case: &mut Case) {
         0 => damage(random, &mut case.tapes[one]),
         1 => case.tapes[one] = vec![0; random.below(12)],
         2 if case.tapes.len() > 1 => case.tapes.rotate_left(1),
-        2 => case.tapes[0] = tape::encode(&Node::new(28, 0, vec![])),
+        2 => case.tapes[0] = tape::encode(&another_root(random)),
         _ => case.tapes.iter_mut().for_each(|tape| damage(random, tape)),
+    }
+}
+
+/// A small tree of some root.
+fn another_root(random: &mut Random) -> Node {
+    let empty = || Node::counted(41, 1, vec![]);
+    match random.below(6) {
+        0 => Node::new(28, 0, vec![]),
+        1 => Node::new(10, 0, vec![Node::with_text(43, b"t")]),
+        2 => empty(),
+        3 => Node::new(54, 0, vec![Node::with_text(40, b"m"), empty()]),
+        4 => Node::new(70, 0, vec![Node::with_text(40, b"m"), empty()]),
+        _ => Node::new(75, 1, vec![]),
     }
 }
 

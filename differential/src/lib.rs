@@ -13,6 +13,7 @@ pub mod message;
 pub mod model;
 pub mod places;
 pub mod profile;
+pub mod provider;
 pub mod random;
 pub mod record;
 pub mod tally;

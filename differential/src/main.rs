@@ -11,7 +11,7 @@ const USAGE: &str = "differential COMMAND
   run [--seed N] [--cases N] [--from N] [--only OPERATION,..]   compare on cases from a seed
   show [--seed N] [--from N]   print one of them, with its answer
   replay FILE                  compare on a list of vectors, and with what it expects
-  record FILE [--seed N] [--cases N]   write the fixed list, from 400,000 cases";
+  record FILE [--seed N] [--cases N] [--only OPERATION,..]   write the fixed list, from 400,000 cases";
 
 /// After so many differences a campaign ends.
 const ENOUGH: u64 = 20;
@@ -25,9 +25,8 @@ fn main() -> ExitCode {
         }),
         Some("show") => option(&args, "--seed", 1).and_then(|seed| Ok(show(seed, option(&args, "--from", 0)?))),
         Some("replay") if args.len() == 2 => replay(&args[1]),
-        Some("record") if args.len() >= 2 => {
-            option(&args, "--seed", 1).and_then(|seed| record(&args[1], seed, option(&args, "--cases", 400_000)?))
-        }
+        Some("record") if args.len() >= 2 => option(&args, "--seed", 1)
+            .and_then(|seed| record(&args[1], seed, option(&args, "--cases", 400_000)?, &only(&args)?)),
         _ => Err(USAGE.to_string()),
     };
     match done {
@@ -130,8 +129,8 @@ fn replay(path: &str) -> Result<bool, String> {
     Ok(differences == 0)
 }
 
-fn record(path: &str, seed: u64, cases: u64) -> Result<bool, String> {
-    let list = record::record(seed, cases)?;
+fn record(path: &str, seed: u64, cases: u64, only: &[Operation]) -> Result<bool, String> {
+    let list = record::record(seed, cases, only)?;
     let bytes = vectors::write(&list);
     std::fs::write(path, &bytes).map_err(|e| format!("{path}: {e}"))?;
     println!("{} vectors, {} bytes", list.len(), bytes.len());

@@ -8,6 +8,7 @@ use crate::judge;
 use crate::merge;
 use crate::message;
 use crate::profile::profile;
+use crate::provider;
 use crate::tape::{self, LARGEST, LARGEST_CALLS, Largest, Measure, Node, Over, Sort, UNBOUNDED, Unread};
 use std::collections::BTreeSet;
 
@@ -208,6 +209,15 @@ fn operate(case: &Case, walk: &mut Walk, notes: &mut Notes) -> Result<Made, Refu
         (Operation::Older, [tree]) => match tape::older(tree) {
             Some(older) => Ok(Made::Tree(older)),
             None => refuse(52, 0, String::new()),
+        },
+        (Operation::Provider, [_]) => Ok(Made::Nothing),
+        (Operation::ArgumentToTerm, [argument]) => match provider::term_of(argument) {
+            Some(term) => Ok(Made::Tree(term)),
+            None => refuse(56, 0, String::new()),
+        },
+        (Operation::TermToArgument, [term]) => match provider::argument_of(term) {
+            Some(argument) => Ok(Made::Tree(argument)),
+            None => refuse(58, 0, String::new()),
         },
         (Operation::Profile, [condition]) => profile(condition).map(|()| Made::Nothing),
         _ => unreachable!("a case has as many tapes as its operation has roots"),

@@ -71,7 +71,7 @@ enum Shows {
     Declared(usize, usize),
     /// A character of so many bytes on an accepted tape, in a result or in a message.
     Character(&'static str, usize),
-    /// A root of the older tape, of a success.
+    /// A root where there are several, of a success.
     Root(u8),
     /// An interval in weeks, behind a 57 or in a within, by what its days are.
     Weeks(bool, &'static str),
@@ -164,11 +164,11 @@ impl Candidate {
 }
 
 /// The bench cases and the order in a Since, and behind them cases from the seed until everything that any of them shows is shown.
-/// So many cases are looked through; more of them give a smaller list that shows more, slowly.
-pub fn record(seed: u64, cases: u64) -> Result<Vec<(Case, Answer)>, String> {
+/// So many cases are looked through, those of these operations taken; more of them give a smaller list that shows more, slowly.
+pub fn record(seed: u64, cases: u64, only: &[Operation]) -> Result<Vec<(Case, Answer)>, String> {
     let first = bench_cases::cases().into_iter().chain(bench_cases::orders());
     let mut chosen = first.map(Candidate::new).collect::<Result<Vec<_>, _>>()?;
-    let mut left = smallest(seed, cases)?;
+    let mut left = smallest(seed, cases, only)?;
     loop {
         let shown: BTreeSet<_> = chosen.iter().flat_map(|c| c.shows.iter().cloned()).collect();
         left.iter_mut().for_each(|c| c.shows.retain(|s| !shown.contains(s)));
@@ -182,9 +182,9 @@ pub fn record(seed: u64, cases: u64) -> Result<Vec<(Case, Answer)>, String> {
 }
 
 /// For each thing that can be shown the smallest cases that show it.
-fn smallest(seed: u64, cases: u64) -> Result<Vec<Candidate>, String> {
+fn smallest(seed: u64, cases: u64, only: &[Operation]) -> Result<Vec<Candidate>, String> {
     let mut least: BTreeMap<(u8, Shows), Vec<(usize, u64)>> = BTreeMap::new();
-    for index in 0..cases {
+    for index in (0..cases).filter(|index| only.contains(&generate::operation(seed, *index))) {
         let candidate = Candidate::new(generate::case(seed, index))?;
         for shows in &candidate.shows {
             let of = least.entry(shows.clone()).or_default();
@@ -211,7 +211,7 @@ fn shows(case: &Case, answer: &Answer, notes: &Notes) -> Vec<Shows> {
         let places = places::seen(&notes.given);
         all.extend(places.iter().map(|(.., code)| Shows::Code { success, code: *code }));
         if success {
-            if case.operation.charges() {
+            if case.operation.charges() || case.operation == Operation::Provider {
                 all.extend(places.into_iter().map(Shows::Place));
             }
             all.extend(notes.trees.iter().skip(1).map(|tree| Shows::Calls(tape::measure(tree).calls)));
@@ -245,7 +245,8 @@ fn shows(case: &Case, answer: &Answer, notes: &Notes) -> Vec<Shows> {
             all.push(Shows::WholeBudget);
         }
     }
-    if case.operation == Operation::Older
+    if let Operation::Older | Operation::Provider | Operation::ArgumentToTerm | Operation::TermToArgument =
+        case.operation
         && let [tree] = &notes.given[..]
     {
         if success {

@@ -19,6 +19,9 @@ pub fn possible(operation: Operation) -> Vec<u64> {
         Operation::Merge => vec![0, 1, 2, 3, 10, 11, 51],
         Operation::Older => vec![0, 1, 2, 3, 52],
         Operation::Profile => vec![0, 2, 3, 53, 54, 55],
+        Operation::Provider => vec![0, 2, 3],
+        Operation::ArgumentToTerm => vec![0, 1, 2, 3, 56],
+        Operation::TermToArgument => vec![0, 1, 2, 3, 58],
     }
 }
 
@@ -88,11 +91,11 @@ impl Tally {
     }
 
     pub fn print(&self) {
-        println!("{:>8}{}", "number", OPERATIONS.map(|op| format!(" {:>13}", op.name())).concat());
+        println!("{:>8}{}", "number", OPERATIONS.map(|op| format!(" {:>16}", op.name())).concat());
         let numbers: BTreeSet<u64> = self.numbers.keys().map(|(n, _)| *n).collect();
         for number in numbers {
             let of = |op| self.numbers.get(&(number, op)).map_or("-".to_string(), u64::to_string);
-            println!("{number:>8}{}", OPERATIONS.map(|op| format!(" {:>13}", of(op))).concat());
+            println!("{number:>8}{}", OPERATIONS.map(|op| format!(" {:>16}", of(op))).concat());
         }
         println!("why 1, 2 and 3:");
         for ((number, reason), count) in &self.reasons {

@@ -31,6 +31,10 @@ pub enum Sort {
     Definitions,
     /// A root: a condition, a term, a call, a definition or a list of definitions.
     Any,
+    /// A root: a provider call, or a provider's argument alone.
+    Provider,
+    ProviderArgument,
+    ProviderArguments,
 }
 
 /// What an entry's value says.
@@ -66,18 +70,21 @@ pub fn codes(sort: Sort) -> &'static [u8] {
             1, 2, 3, 4, 5, 6, 7, 8, 9, 10, 11, 12, 13, 20, 21, 22, 23, 24, 25, 26, 27, 28, 29, 30, 31, 32, 33, 41, 54,
             60,
         ],
+        Sort::Provider => &[70, 71, 72, 73, 74, 75, 76],
+        Sort::ProviderArgument => &[71, 72, 73, 74, 75, 76],
         Sort::Texts | Sort::Fields | Sort::Binders | Sort::Arguments | Sort::Parameters | Sort::Definitions => &[41],
+        Sort::ProviderArguments => &[41],
     }
 }
 
 /// What the value of a code says.
 pub fn value(code: u8) -> Value {
     match code {
-        1..=13 | 34..=36 | 42 | 54 | 60 => Value::Span,
-        22 | 23 | 27 | 32 | 33 | 40 | 43..=45 | 52 | 58 | 59 => Value::TextLength,
-        25 | 26 | 29 | 41 | 47 => Value::Count,
-        21 | 48..=51 | 64 => Value::Any,
-        24 => Value::Below(2),
+        1..=13 | 34..=36 | 42 | 54 | 60 | 70 => Value::Span,
+        22 | 23 | 27 | 32 | 33 | 40 | 43..=45 | 52 | 58 | 59 | 72 | 74 => Value::TextLength,
+        25 | 26 | 29 | 41 | 47 | 71 | 76 => Value::Count,
+        21 | 48..=51 | 64 | 73 => Value::Any,
+        24 | 75 => Value::Below(2),
         31 => Value::Below(3),
         53 => Value::Below(6),
         _ => Value::Zero,
@@ -107,6 +114,7 @@ pub fn parts(code: u8) -> &'static [Sort] {
         56 | 63 => &[Sort::Term],
         57 => &[Sort::Interval],
         60 => &[Sort::Text, Sort::Parameters, Sort::Body],
+        70 => &[Sort::Text, Sort::ProviderArguments],
         _ => &[],
     }
 }
@@ -114,7 +122,8 @@ pub fn parts(code: u8) -> &'static [Sort] {
 /// What one item of an entry with a count is: what follows it, as often as the count says.
 pub fn item(sort: Sort, code: u8) -> &'static [Sort] {
     match (code, sort) {
-        (25 | 26 | 47, _) | (41, Sort::Texts) => &[Sort::Text],
+        (25 | 26 | 47 | 71, _) | (41, Sort::Texts) => &[Sort::Text],
+        (76, _) | (41, Sort::ProviderArguments) => &[Sort::ProviderArgument],
         (29, _) => &[Sort::Term],
         (41, Sort::Fields) => &[Sort::Text, Sort::Term],
         (41, Sort::Binders) => &[Sort::Slot, Sort::Type],
@@ -125,9 +134,9 @@ pub fn item(sort: Sort, code: u8) -> &'static [Sort] {
     }
 }
 
-/// Conditions, terms and aggregates: what nesting and size count.
+/// Conditions, terms and aggregates, which nesting and size count, and a provider's arguments.
 pub fn is_node(code: u8) -> bool {
-    matches!(code, 1..=13 | 20..=36)
+    matches!(code, 1..=13 | 20..=36 | 71..=76)
 }
 
 /// An entry with what follows it. `value` is as on the tape; the items of a list stand flat among `children`.
@@ -472,7 +481,7 @@ fn over(tree: &Node, longest_name: usize) -> Option<Over> {
     tree.visit(&mut |node| {
         let length = node.text.len();
         found = found.or(match node.code {
-            22 | 23 => exceeds("literal", length, LARGEST_LITERAL),
+            22 | 23 | 72 | 74 => exceeds("literal", length, LARGEST_LITERAL),
             60 => exceeds("parameters", node.children[1].value as usize, LARGEST_PARAMETERS),
             27 | 43 => exceeds("name", length, longest_name),
             _ => exceeds("text of an entry", length, LARGEST_TEXT),

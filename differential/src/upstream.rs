@@ -6,6 +6,7 @@ use crate::model;
 use crate::tape::{self, Node};
 use dogwood::ast::{MacroBody, MacroDef, MacroParam};
 use dogwood::error::Span;
+use dogwood::extension::provider::ast::{Arg, MethodCall};
 use dogwood::extension::temporal::ast::{
     AggExpr, AggExprKind, ArithOp, BinderSlot, Call, CallArg, CmpOp, Condition, ConditionKind, Interval, NamedArg,
     Predicate, Sigil, Term, TimeUnit, Type, TypedBinder, WithinSpec,
@@ -354,6 +355,73 @@ fn aggregate(node: &Node) -> AggExpr {
         _ => AggExprKind::Call(macro_call(&parts[0])),
     };
     AggExpr { span: span(node.value), kind }
+}
+
+// ------------------------------------------------------------------ provider calls
+
+/// A provider tape's tree through upstream's types and back.
+pub fn provider_tree(node: &Node) -> Node {
+    match node.code {
+        70 => {
+            let args = node.children[1].children.iter().map(provider_argument).collect();
+            let call = MethodCall { span: span(node.value), name: text(&node.children[0]), args };
+            let list = Node::counted(41, 1, call.args.iter().map(argument_node).collect());
+            Node::new(70, span_value(call.span), vec![text_node(40, &call.name), list])
+        }
+        _ => argument_node(&provider_argument(node)),
+    }
+}
+
+fn provider_argument(node: &Node) -> Arg {
+    match node.code {
+        71 => Arg::Field(texts(&node.children)),
+        72 => Arg::String(text(node)),
+        73 => Arg::Integer(node.value as i64),
+        74 => Arg::Decimal(text(node)),
+        75 => Arg::Bool(node.value == 1),
+        _ => Arg::Set(node.children.iter().map(provider_argument).collect()),
+    }
+}
+
+fn argument_node(argument: &Arg) -> Node {
+    match argument {
+        Arg::Field(path) => texts_node(71, path),
+        Arg::String(text) => text_node(72, text),
+        Arg::Integer(n) => Node::new(73, *n as u64, vec![]),
+        Arg::Decimal(text) => text_node(74, text),
+        Arg::Bool(b) => Node::new(75, u64::from(*b), vec![]),
+        Arg::Set(items) => Node::counted(76, 1, items.iter().map(argument_node).collect()),
+    }
+}
+
+/// An argument of upstream's as a term of upstream's, a set becoming an array.
+pub fn argument_as_term(node: &Node) -> Option<Node> {
+    fn turn(argument: &Arg) -> Option<Term> {
+        Some(match argument {
+            Arg::Field(_) => return None,
+            Arg::String(text) => Term::String(text.clone()),
+            Arg::Integer(n) => Term::Integer(*n),
+            Arg::Decimal(text) => Term::Decimal(text.clone()),
+            Arg::Bool(b) => Term::Bool(*b),
+            Arg::Set(items) => Term::Array(items.iter().map(turn).collect::<Option<_>>()?),
+        })
+    }
+    turn(&provider_argument(node)).map(|term| term_node(&term))
+}
+
+/// A term of upstream's as an argument of upstream's.
+pub fn term_as_argument(node: &Node) -> Option<Node> {
+    fn turn(term: &Term) -> Option<Arg> {
+        Some(match term {
+            Term::String(text) => Arg::String(text.clone()),
+            Term::Integer(n) => Arg::Integer(*n),
+            Term::Decimal(text) => Arg::Decimal(text.clone()),
+            Term::Bool(b) => Arg::Bool(*b),
+            Term::Array(items) => Arg::Set(items.iter().map(turn).collect::<Option<_>>()?),
+            _ => return None,
+        })
+    }
+    turn(&term(node)).map(|argument| argument_node(&argument))
 }
 
 // ------------------------------------------------------------------ and back

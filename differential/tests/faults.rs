@@ -54,7 +54,7 @@ fn the_model_itself_passes() {
 
 #[test]
 fn wrong_answers_are_noticed() {
-    let changes: [(&str, Change); 19] = [
+    let changes: [(&str, Change); 20] = [
         ("refuses each call", |case, answer| {
             if case.operation.charges() && answer.charged > 0 {
                 *answer = Answer { number: 30, ..Answer::success(case.counts) };
@@ -120,6 +120,11 @@ fn wrong_answers_are_noticed() {
         ("gives the supplied tape as result", |case, answer| {
             if case.operation == Operation::Judge && answer.number == 0 {
                 answer.result = case.tapes[2].clone();
+            }
+        }),
+        ("turns a field into something", |_, answer| {
+            if answer.number == 56 {
+                answer.number = 0;
             }
         }),
         ("counts on a refusal", |case, answer| {

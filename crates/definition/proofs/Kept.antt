@@ -89,7 +89,7 @@ short-texts (e ∷ es) h =
 
 longest : (c : ℕ) → longestText c ≤ 255
 unfolding longestText
-longest c = go (isCode (22 ∷ 23 ∷ []) c)
+longest c = go (isCode (22 ∷ 23 ∷ 72 ∷ 74 ∷ []) c)
   where
     go : (b : Bool) → elim b [ true ↦ 255 | false ↦ 64 ] ≤ 255
     go true = omega arith

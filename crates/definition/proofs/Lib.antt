@@ -13,6 +13,9 @@ pub mod Judge
 pub mod JudgeCases
 pub mod Suppliers
 pub mod OwnResult
+pub mod Provider
+pub mod ProviderTapes
+pub mod ProviderCases
 pub mod Names
 pub mod LengthenedSubstitute
 pub mod Lengthened

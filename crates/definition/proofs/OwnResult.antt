@@ -84,11 +84,11 @@ record Again (most : ℕ) (e : Entry) : Type 0 where
   no-or : NoOr e
 
 -- a name is no number and no string
-name-short : (c : ℕ) → T (isName c) → isCode (22 ∷ 23 ∷ []) c ≡ false
+name-short : (c : ℕ) → T (isName c) → isCode (22 ∷ 23 ∷ 72 ∷ 74 ∷ []) c ≡ false
 unfolding isName isCode
 name-short c t = go (eqb c 27) (eqb c 43) t (eqb→eq c 27) (eqb→eq c 43)
   where
-    go : (x y : Bool) → T (x || (y || false)) → (T x → c ≡ 27) → (T y → c ≡ 43) → isCode (22 ∷ 23 ∷ []) c ≡ false
+    go : (x y : Bool) → T (x || (y || false)) → (T x → c ≡ 27) → (T y → c ≡ 43) → isCode (22 ∷ 23 ∷ 72 ∷ 74 ∷ []) c ≡ false
     go true y u f g = rw (f tt) refl
     go false true u f g = rw (g tt) refl
     go false false u f g = absurd u
@@ -97,7 +97,7 @@ again-short : (most : ℕ) → 64 ≤ most → (e : Entry) → length (e .text) 
 unfolding longestNamed longestText
 again-short most m e h = go (isName (e .code)) (name-short (e .code))
   where
-    go : (x : Bool) → (T x → isCode (22 ∷ 23 ∷ []) (e .code) ≡ false)
+    go : (x : Bool) → (T x → isCode (22 ∷ 23 ∷ 72 ∷ 74 ∷ []) (e .code) ≡ false)
         → length (e .text) ≤ elim x [ true ↦ most | false ↦ longestText (e .code) ]
     go true f = let k : length (e .text) ≤ 64 = rw (f tt, longestText) at h in omega arith
     go false f = h

@@ -26,4 +26,7 @@ pub mod Older
 pub mod Agree
 pub mod Judge
 pub mod JudgeCases
+pub mod Provider
+pub mod ProviderPromises
+pub mod ProviderCases
 pub mod Cases

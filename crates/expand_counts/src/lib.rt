@@ -237,6 +237,8 @@ fn width_of(code: u8, value: u64) -> u64
         52 => value,
         58 => value,
         59 => value,
+        72 => value,
+        74 => value,
         _ => 0,
     }
 }

@@ -11,8 +11,9 @@ use lib.ListN.{length}
 use Rattle.format.specs.Entry.{Text, Entry, entry, textEntry}
 use Rattle.format.specs.Ast.{TimeUnit, Interval, WithinSpec, BinderSlot, BinderType, TypedBinder, Sigil, CmpOp, ArithOp, Condition, Term, AggExpr, Call, CallArg, CallArgs, NamedArgs, Terms, Tree, MacroParam, MacroBody, MacroDef}
 use Rattle.format.specs.Flat.{flatTexts, flatUnit, flatInterval, flatWithin, flatSlot, flatType, flatBinder, flatBinders, flatSigil, flatCmp, flatArith, flatBool, lengthTerms, lengthFields, lengthArgs, flatCondition, flatTerm, flatAgg, flatCall, flatArg, flatArgs, flatFields, flatTerms, flatTree, flatParams, flatBody, flatDef, flatDefs, flatRegistry}
-use Rattle.format.specs.Build.{Item, Stack, Pop, give, onward, _>>=_, only, pop, asLeaf, asCondition, asTerm, asAgg, asCall, asDefinition, asTree, popCondition, popTerm, number, noValue, guard, texted, mapRows, choose, popRow, many, listOf, popText, popTexts, popSpan, interval, intervalRows, popInterval, withinRows, popWithin, slotRows, popSlot, typeRows, popType, popBinder, sigilRows, popSigil, nth, cmpOps, arithOps, popCmp, popField, consNamed, popFields, popBinders, argRows, popArgs, popParam, popParams, bodyRows, popBody, conditionRows, termRows, aggRows, callRows, definitionRows, table, restack, push, pushOn, buildOn, build}
-use Rattle.format.specs.Tape.{Root, conditionRoot, callRoot, definitionRoot, registryRoot, treeRoot}
+use Rattle.format.specs.Provider.{Arg, Args, MethodCall, Provider, lengthArguments, flatArgument, flatArguments, flatMethodCall, flatProvider}
+use Rattle.format.specs.Build.{Item, Stack, Pop, give, onward, _>>=_, only, pop, asLeaf, asCondition, asTerm, asAgg, asCall, asDefinition, asTree, asArgument, asProvider, popCondition, popTerm, number, noValue, guard, texted, mapRows, choose, popRow, many, listOf, popText, popTexts, popSpan, interval, intervalRows, popInterval, withinRows, popWithin, slotRows, popSlot, typeRows, popType, popBinder, sigilRows, popSigil, nth, cmpOps, arithOps, popCmp, popField, consNamed, popFields, popBinders, argRows, popArgs, popParam, popParams, bodyRows, popBody, conditionRows, termRows, aggRows, callRows, definitionRows, popArgument, argumentRows, popArguments, methodCallRows, table, restack, push, pushOn, buildOn, build}
+use Rattle.format.specs.Tape.{Root, conditionRoot, callRoot, definitionRoot, registryRoot, treeRoot, termRoot, argumentRoot, providerRoot}
 use Rattle.format.proofs.All.{All, all-nil, all-cons, all-append}
 
 eqb-self : (n : ℕ) → eqb n n ≡ true
@@ -39,7 +40,7 @@ builds-leaves (all-cons {l = es} h f) st = rw (builds-leaves f st) (h (leaves es
 
 -- to unfold this is to unfold what decides an entry's row
 pushes : Unit {0}
-unfolding push restack choose table mapRows conditionRows termRows aggRows callRows definitionRows give
+unfolding push restack choose table mapRows conditionRows termRows aggRows callRows definitionRows argumentRows methodCallRows give
 pushes = tt
 
 -- to unfold this is to unfold what takes an entry from the stack by its row
@@ -488,6 +489,48 @@ builds-defs [] st = refl
 builds-defs (d ∷ ds) st =
     rw (build-append (some st) (flatDef d) (flatDefs ds), builds-defs ds st) (builds-definition d (itemsOf defItems ds ++ st))
 
+-- ------------------------------------------------------------------ provider tapes
+
+argumentItems : Args → Stack
+argumentItems Args.noArgs = []
+argumentItems (Args.consArg a rest) = Item.argument a ∷ argumentItems rest
+
+finds-arguments : (items : Args) (st : Stack)
+    → many Args.noArgs Args.consArg popArgument (lengthArguments items) (argumentItems items ++ st) ≡ some (items, st)
+unfolding many popArgument pop asArgument only _>>=_ onward give lengthArguments argumentItems
+finds-arguments Args.noArgs st = refl
+finds-arguments (Args.consArg a rest) st = rw (finds-arguments rest st) refl
+
+mutual
+  unfolding pushes flatArgument buildOn pushOn number texted guard give _>>=_ onward popTexts nth flatBool argumentItems
+
+  builds-argument : (a : Arg) (st : Stack) → buildOn (some st) (flatArgument a) ≡ some (Item.argument a ∷ st)
+  builds-argument (Arg.Field path) st = rw (builds-leaves (wait-texts path) st, finds-texts path st) refl
+  builds-argument (Arg.String t) st = rw (eqb-self (length t))
+  builds-argument (Arg.Integer n) st = refl
+  builds-argument (Arg.Decimal t) st = rw (eqb-self (length t))
+  builds-argument (Arg.Bool true) st = refl
+  builds-argument (Arg.Bool false) st = refl
+  builds-argument (Arg.Set items) st = rw (builds-arguments items st, finds-arguments items st) refl
+
+  builds-arguments : (items : Args) (st : Stack) → buildOn (some st) (flatArguments items) ≡ some (argumentItems items ++ st)
+  builds-arguments Args.noArgs st = refl
+  builds-arguments (Args.consArg a rest) st =
+      rw (build-append (some st) (flatArgument a) (flatArguments rest), builds-arguments rest st)
+      (builds-argument a (argumentItems rest ++ st))
+
+builds-methodCall : (c : MethodCall) (st : Stack) → buildOn (some st) (flatMethodCall c) ≡ some (Item.methodCall c ∷ st)
+unfolding pushes flatMethodCall buildOn pushOn number _>>=_ onward popArguments
+builds-methodCall c st =
+    let items = c .args in
+    rw (
+      builds-arguments items st,
+      finds-text (c .name) (Item.leaf (entry 41 (lengthArguments items)) ∷ (argumentItems items ++ st)),
+      finds-41 Args.noArgs Args.consArg popArgument (lengthArguments items) (argumentItems items ++ st),
+      finds-arguments items st,
+    )
+    refl
+
 -- ------------------------------------------------------------------ the roots
 
 -- a root is found again in what its entries build
@@ -527,3 +570,16 @@ pub rooted-tree : (t : Tree) → Rooted treeRoot t
 unfolding build treeRoot flatTree pop asTree only
 rooted-tree (Tree.condition c) = record { stack = Item.condition c ∷ []; built = builds-condition c []; taken = refl }
 rooted-tree (Tree.term t) = record { stack = Item.term t ∷ []; built = builds-term t []; taken = refl }
+
+pub rooted-term : (t : Term) → Rooted termRoot t
+unfolding build termRoot pop asTerm only
+rooted-term t = record { stack = Item.term t ∷ []; built = builds-term t []; taken = refl }
+
+pub rooted-argument : (a : Arg) → Rooted argumentRoot a
+unfolding build argumentRoot pop asArgument only
+rooted-argument a = record { stack = Item.argument a ∷ []; built = builds-argument a []; taken = refl }
+
+pub rooted-provider : (p : Provider) → Rooted providerRoot p
+unfolding build providerRoot flatProvider pop asProvider only
+rooted-provider (Provider.call c) = record { stack = Item.methodCall c ∷ []; built = builds-methodCall c []; taken = refl }
+rooted-provider (Provider.argument a) = record { stack = Item.argument a ∷ []; built = builds-argument a []; taken = refl }

@@ -10,7 +10,8 @@ use lib.ListN.{length}
 use Rattle.format.specs.Entry.{Text, Entry, entry, textEntry}
 use Rattle.format.specs.Ast.{Interval, WithinSpec, BinderSlot, BinderType, TypedBinder, Sigil, CmpOp, ArithOp, Condition, Term, CallArgs, NamedArgs, Terms, MacroParam}
 use Rattle.format.specs.Flat.{flatTexts, flatUnit, flatInterval, flatWithin, flatSlot, flatType, flatBinder, flatBinders, flatSigil, flatCmp, flatArith, flatBool, lengthTerms, lengthFields, lengthArgs, flatCondition, flatTerm, flatAgg, flatCall, flatArg, flatArgs, flatFields, flatTerms, flatTree, flatParams, flatBody, flatDef, flatDefs, flatRegistry}
-use Rattle.format.specs.Build.{Item, Stack, Pop, give, fail, onward, _>>=_, only, pop, asLeaf, asCondition, asTerm, asAgg, asCall, asDefinition, asTree, popCondition, popTerm, number, noValue, guard, texted, Row, row, mapRows, choose, popRow, many, listOf, popText, popTexts, popSpan, interval, intervalRows, popInterval, withinRows, popWithin, slotRows, popSlot, typeRows, popType, popBinder, sigilRows, popSigil, nth, cmpOps, arithOps, popCmp, popField, consNamed, popFields, popBinders, argRows, popArgs, popParam, popParams, bodyRows, popBody, conditionRows, termRows, aggRows, callRows, definitionRows, table, restack, push, pushOn, buildOn, build}
+use Rattle.format.specs.Provider.{Arg, Args, lengthArguments, flatArgument, flatArguments, flatMethodCall, flatProvider}
+use Rattle.format.specs.Build.{Item, Stack, Pop, give, fail, onward, _>>=_, only, pop, asLeaf, asCondition, asTerm, asAgg, asCall, asDefinition, asTree, asArgument, asProvider, popCondition, popTerm, number, noValue, guard, texted, Row, row, mapRows, choose, popRow, many, listOf, popText, popTexts, popSpan, interval, intervalRows, popInterval, withinRows, popWithin, slotRows, popSlot, typeRows, popType, popBinder, sigilRows, popSigil, nth, cmpOps, arithOps, popCmp, popField, consNamed, popFields, popBinders, argRows, popArgs, popParam, popParams, bodyRows, popBody, conditionRows, termRows, aggRows, callRows, definitionRows, popArgument, argumentRows, popArguments, methodCallRows, table, restack, push, pushOn, buildOn, build}
 
 unfoldable pub flatItem : Item → List Entry
 flatItem (Item.leaf e) = e ∷ []
@@ -19,6 +20,8 @@ flatItem (Item.term t) = flatTerm t
 flatItem (Item.agg a) = flatAgg a
 flatItem (Item.call c) = flatCall c
 flatItem (Item.definition d) = flatDef d
+flatItem (Item.argument a) = flatArgument a
+flatItem (Item.methodCall c) = flatMethodCall c
 
 unfoldable pub flatStack : Stack → List Entry
 flatStack [] = []
@@ -99,6 +102,8 @@ sorted-leaf (Item.term t) = other
 sorted-leaf (Item.agg a) = other
 sorted-leaf (Item.call c) = other
 sorted-leaf (Item.definition d) = other
+sorted-leaf (Item.argument a) = other
+sorted-leaf (Item.methodCall c) = other
 
 sorted-condition : (i : Item) → Sorted flatCondition i (asCondition i)
 unfolding asCondition flatItem
@@ -108,6 +113,8 @@ sorted-condition (Item.term t) = other
 sorted-condition (Item.agg a) = other
 sorted-condition (Item.call c) = other
 sorted-condition (Item.definition d) = other
+sorted-condition (Item.argument a) = other
+sorted-condition (Item.methodCall c) = other
 
 sorted-term : (i : Item) → Sorted flatTerm i (asTerm i)
 unfolding asTerm flatItem
@@ -117,6 +124,8 @@ sorted-term (Item.term t) = sorted refl
 sorted-term (Item.agg a) = other
 sorted-term (Item.call c) = other
 sorted-term (Item.definition d) = other
+sorted-term (Item.argument a) = other
+sorted-term (Item.methodCall c) = other
 
 sorted-agg : (i : Item) → Sorted flatAgg i (asAgg i)
 unfolding asAgg flatItem
@@ -126,6 +135,8 @@ sorted-agg (Item.term t) = other
 sorted-agg (Item.agg a) = sorted refl
 sorted-agg (Item.call c) = other
 sorted-agg (Item.definition d) = other
+sorted-agg (Item.argument a) = other
+sorted-agg (Item.methodCall c) = other
 
 sorted-call : (i : Item) → Sorted flatCall i (asCall i)
 unfolding asCall flatItem
@@ -135,6 +146,8 @@ sorted-call (Item.term t) = other
 sorted-call (Item.agg a) = other
 sorted-call (Item.call c) = sorted refl
 sorted-call (Item.definition d) = other
+sorted-call (Item.argument a) = other
+sorted-call (Item.methodCall c) = other
 
 sorted-definition : (i : Item) → Sorted flatDef i (asDefinition i)
 unfolding asDefinition flatItem
@@ -144,6 +157,19 @@ sorted-definition (Item.term t) = other
 sorted-definition (Item.agg a) = other
 sorted-definition (Item.call c) = other
 sorted-definition (Item.definition d) = sorted refl
+sorted-definition (Item.argument a) = other
+sorted-definition (Item.methodCall c) = other
+
+sorted-argument : (i : Item) → Sorted flatArgument i (asArgument i)
+unfolding asArgument flatItem
+sorted-argument (Item.leaf e) = other
+sorted-argument (Item.condition c) = other
+sorted-argument (Item.term t) = other
+sorted-argument (Item.agg a) = other
+sorted-argument (Item.call c) = other
+sorted-argument (Item.definition d) = other
+sorted-argument (Item.argument a) = sorted refl
+sorted-argument (Item.methodCall c) = other
 
 s-leaf : Spells one [] (pop asLeaf)
 s-leaf = s-pop sorted-leaf
@@ -484,13 +510,38 @@ s-definitions =
     (s-number 60 _ λ s. s-bind s-text λ n. s-bind s-params λ ps. s-bind s-body λ b. s-give _ refl)
     s-end
 
+s-argument : Spells flatArgument [] popArgument
+unfolding popArgument
+s-argument = s-pop sorted-argument
+
+arguments : Listing flatArgument Args.noArgs Args.consArg lengthArguments flatArguments
+unfolding flatArguments lengthArguments
+arguments = record { g-nil = refl; g-cons = λ a l. refl; count-nil = refl; count-cons = λ a l. refl }
+
+s-arguments : RowsSpell flatArgument argumentRows
+unfolding argumentRows popTexts flatArgument
+s-arguments =
+    s-row (s-counted 71 Arg.Field texts s-text λ ts. refl)
+    (s-row (s-texted 72 _ λ t. s-give _ refl)
+    (s-row (s-number 73 _ λ n. s-give _ refl)
+    (s-row (s-texted 74 _ λ t. s-give _ refl)
+    (s-row (s-number 75 _ λ n. s-then (s-bools (λ k. entry 75 k ∷ []) n) λ b. s-give _ refl)
+    (s-row (s-counted 76 Arg.Set arguments s-argument λ items. refl) s-end)))))
+
+s-methodCalls : RowsSpell flatMethodCall methodCallRows
+unfolding methodCallRows popArguments flatMethodCall
+s-methodCalls =
+    s-row (s-number 70 _ λ s. s-bind s-text λ n. s-bind (s-listOf arguments s-argument) λ items. s-give _ refl) s-end
+
 s-table : RowsSpell flatItem table
 unfolding table flatItem
 s-table =
     s-append (s-mapRows Item.condition s-conditions λ c. refl)
     (s-append (s-mapRows Item.term s-terms λ t. refl)
     (s-append (s-mapRows Item.agg s-aggs λ a. refl)
-    (s-append (s-mapRows Item.call s-calls λ c. refl) (s-mapRows Item.definition s-definitions λ d. refl))))
+    (s-append (s-mapRows Item.call s-calls λ c. refl)
+    (s-append (s-mapRows Item.definition s-definitions λ d. refl)
+    (s-append (s-mapRows Item.argument s-arguments λ a. refl) (s-mapRows Item.methodCall s-methodCalls λ c. refl))))))
 
 -- ------------------------------------------------------------------ stacks
 
@@ -551,6 +602,28 @@ sorted-tree (Item.term t) = sorted refl
 sorted-tree (Item.agg a) = other
 sorted-tree (Item.call c) = other
 sorted-tree (Item.definition d) = other
+sorted-tree (Item.argument a) = other
+sorted-tree (Item.methodCall c) = other
 
 pub s-tree-root : Spells flatTree [] (pop asTree)
 s-tree-root = s-pop sorted-tree
+
+pub s-term-root : Spells flatTerm [] (pop asTerm)
+s-term-root = s-pop sorted-term
+
+pub s-argument-root : Spells flatArgument [] (pop asArgument)
+s-argument-root = s-pop sorted-argument
+
+sorted-provider : (i : Item) → Sorted flatProvider i (asProvider i)
+unfolding asProvider flatItem flatProvider
+sorted-provider (Item.leaf e) = other
+sorted-provider (Item.condition c) = other
+sorted-provider (Item.term t) = other
+sorted-provider (Item.agg a) = other
+sorted-provider (Item.call c) = other
+sorted-provider (Item.definition d) = other
+sorted-provider (Item.argument a) = sorted refl
+sorted-provider (Item.methodCall c) = sorted refl
+
+pub s-provider-root : Spells flatProvider [] (pop asProvider)
+s-provider-root = s-pop sorted-provider

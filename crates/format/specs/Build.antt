@@ -10,6 +10,7 @@ use lib.Dec.{eqb}
 use lib.ListN.{length}
 use Rattle.format.specs.Entry.{Text, Entry}
 use Rattle.format.specs.Ast.{TimeUnit, Interval, WithinSpec, BinderSlot, BinderType, TypedBinder, Sigil, CmpOp, ArithOp, Condition, Term, AggExpr, Call, CallArg, CallArgs, NamedArgs, Terms, Tree, MacroParam, MacroBody, MacroDef}
+use Rattle.format.specs.Provider.{Arg, Args, MethodCall, Provider}
 
 pub data Item : Type 0 where
   leaf : Entry → Item
@@ -18,6 +19,8 @@ pub data Item : Type 0 where
   agg : AggExpr → Item
   call : Call → Item
   definition : MacroDef → Item
+  argument : Arg → Item
+  methodCall : MethodCall → Item
 
 abbrev pub Stack : Type 0
 Stack = List Item
@@ -56,6 +59,8 @@ asLeaf (Item.term t) = none
 asLeaf (Item.agg a) = none
 asLeaf (Item.call c) = none
 asLeaf (Item.definition d) = none
+asLeaf (Item.argument a) = none
+asLeaf (Item.methodCall c) = none
 
 unfoldable pub asCondition : Item → Option Condition
 asCondition (Item.leaf e) = none
@@ -64,6 +69,8 @@ asCondition (Item.term t) = none
 asCondition (Item.agg a) = none
 asCondition (Item.call c) = none
 asCondition (Item.definition d) = none
+asCondition (Item.argument a) = none
+asCondition (Item.methodCall c) = none
 
 unfoldable pub asTerm : Item → Option Term
 asTerm (Item.leaf e) = none
@@ -72,6 +79,8 @@ asTerm (Item.term t) = some t
 asTerm (Item.agg a) = none
 asTerm (Item.call c) = none
 asTerm (Item.definition d) = none
+asTerm (Item.argument a) = none
+asTerm (Item.methodCall c) = none
 
 unfoldable pub asAgg : Item → Option AggExpr
 asAgg (Item.leaf e) = none
@@ -80,6 +89,8 @@ asAgg (Item.term t) = none
 asAgg (Item.agg a) = some a
 asAgg (Item.call c) = none
 asAgg (Item.definition d) = none
+asAgg (Item.argument a) = none
+asAgg (Item.methodCall c) = none
 
 unfoldable pub asCall : Item → Option Call
 asCall (Item.leaf e) = none
@@ -88,6 +99,8 @@ asCall (Item.term t) = none
 asCall (Item.agg a) = none
 asCall (Item.call c) = some c
 asCall (Item.definition d) = none
+asCall (Item.argument a) = none
+asCall (Item.methodCall c) = none
 
 unfoldable pub asDefinition : Item → Option MacroDef
 asDefinition (Item.leaf e) = none
@@ -96,6 +109,8 @@ asDefinition (Item.term t) = none
 asDefinition (Item.agg a) = none
 asDefinition (Item.call c) = none
 asDefinition (Item.definition d) = some d
+asDefinition (Item.argument a) = none
+asDefinition (Item.methodCall c) = none
 
 -- a result's root
 unfoldable pub asTree : Item → Option Tree
@@ -105,6 +120,29 @@ asTree (Item.term t) = some (Tree.term t)
 asTree (Item.agg a) = none
 asTree (Item.call c) = none
 asTree (Item.definition d) = none
+asTree (Item.argument a) = none
+asTree (Item.methodCall c) = none
+
+unfoldable pub asArgument : Item → Option Arg
+asArgument (Item.leaf e) = none
+asArgument (Item.condition c) = none
+asArgument (Item.term t) = none
+asArgument (Item.agg a) = none
+asArgument (Item.call c) = none
+asArgument (Item.definition d) = none
+asArgument (Item.argument a) = some a
+asArgument (Item.methodCall c) = none
+
+-- a provider tape's root
+unfoldable pub asProvider : Item → Option Provider
+asProvider (Item.leaf e) = none
+asProvider (Item.condition c) = none
+asProvider (Item.term t) = none
+asProvider (Item.agg a) = none
+asProvider (Item.call c) = none
+asProvider (Item.definition d) = none
+asProvider (Item.argument a) = some (Provider.argument a)
+asProvider (Item.methodCall c) = some (Provider.call c)
 
 unfoldable pub popCondition : Pop Condition
 popCondition = pop asCondition
@@ -342,11 +380,34 @@ definitionRows =
     give (record { span = s; name = n; params = ps; body = b }))
     ∷ []
 
+unfoldable pub popArgument : Pop Arg
+popArgument = pop asArgument
+
+unfoldable pub argumentRows : List (Row Arg)
+argumentRows =
+    row 71 (number λ n. popTexts n >>= λ path. give (Arg.Field path))
+    ∷ row 72 (texted λ t. give (Arg.String t))
+    ∷ row 73 (number λ n. give (Arg.Integer n))
+    ∷ row 74 (texted λ t. give (Arg.Decimal t))
+    ∷ row 75 (number λ n. nth (false ∷ true ∷ []) n >>= λ b. give (Arg.Bool b))
+    ∷ row 76 (number λ n. many Args.noArgs Args.consArg popArgument n >>= λ items. give (Arg.Set items))
+    ∷ []
+
+unfoldable pub popArguments : Pop Args
+popArguments = listOf Args.noArgs Args.consArg popArgument
+
+unfoldable pub methodCallRows : List (Row MethodCall)
+methodCallRows =
+    row 70 (number λ s. popText >>= λ n. popArguments >>= λ items. give (record { span = s; name = n; args = items })) ∷ []
+
 unfoldable pub table : List (Row Item)
 table =
     mapRows Item.condition conditionRows
     ++ (mapRows Item.term termRows
-    ++ (mapRows Item.agg aggRows ++ (mapRows Item.call callRows ++ mapRows Item.definition definitionRows)))
+    ++ (mapRows Item.agg aggRows
+    ++ (mapRows Item.call callRows
+    ++ (mapRows Item.definition definitionRows
+    ++ (mapRows Item.argument argumentRows ++ mapRows Item.methodCall methodCallRows)))))
 
 -- ------------------------------------------------------------------ the stack of a list of entries
 
@@ -372,9 +433,9 @@ build es = buildOn (some []) es
 -- Whoever unfolds this unfolds every definition of this file.
 unfoldable pub openBuild : Unit {0}
 unfolding
-    give fail onward _>>=_ only pop asLeaf asCondition asTerm asAgg asCall asDefinition asTree popCondition popTerm number
+    give fail onward _>>=_ only pop asLeaf asCondition asTerm asAgg asCall asDefinition asTree asArgument asProvider popCondition popTerm number
     noValue guard texted mapRows choose popRow many listOf popText popTexts popSpan interval intervalRows popInterval
     withinRows popWithin slotRows popSlot typeRows popType popBinder sigilRows popSigil nth cmpOps arithOps popCmp
     popField popFields popBinders argRows popArgs popParam popParams bodyRows popBody conditionRows termRows aggRows
-    callRows definitionRows table restack push pushOn buildOn build
+    callRows definitionRows popArgument argumentRows popArguments methodCallRows table restack push pushOn buildOn build
 openBuild = tt

@@ -2,3 +2,4 @@ pub mod Table
 pub mod Cells
 pub mod Marks
 pub mod Leaves
+pub mod ProviderMarks

@@ -41,7 +41,7 @@ abbrev below : ℕ → List ℕ → Bool
 below n [] = true
 below n (k ∷ ks) = ltb k n && below n ks
 
-no-code : (ks : List ℕ) (c : ℕ) → T (below 77 ks) → 77 ≤ c → isCode ks c ≡ false
+pub no-code : (ks : List ℕ) (c : ℕ) → T (below 77 ks) → 77 ≤ c → isCode ks c ≡ false
 unfolding isCode
 no-code [] c t h = refl
 no-code (k ∷ ks) c t h =
@@ -70,14 +70,14 @@ pub text-marks : (c : ℕ) → textMark (rowAt temporalWords c) ≡ isText c
 unfolding temporalWords isText isCode
 text-marks =
     everywhere (λ c h. same-eq _ _ (at (λ (k : ℕ). same (textMark (rowAt temporalWords k)) (isText k)) 0 77 tt c (omega arith) h))
-    (λ c h. rw (past-row c h) (sym (no-code (22 ∷ 23 ∷ 27 ∷ 32 ∷ 33 ∷ 40 ∷ 43 ∷ 44 ∷ 45 ∷ 52 ∷ 58 ∷ 59 ∷ []) c tt h)))
+    (λ c h. rw (past-row c h) (sym (no-code (22 ∷ 23 ∷ 27 ∷ 32 ∷ 33 ∷ 40 ∷ 43 ∷ 44 ∷ 45 ∷ 52 ∷ 58 ∷ 59 ∷ 72 ∷ 74 ∷ []) c tt h)))
 
-pub long-marks : (c : ℕ) → longMark (rowAt temporalWords c) ≡ isCode (22 ∷ 23 ∷ []) c
+pub long-marks : (c : ℕ) → longMark (rowAt temporalWords c) ≡ isCode (22 ∷ 23 ∷ 72 ∷ 74 ∷ []) c
 unfolding temporalWords isCode
 long-marks =
     everywhere
-    (λ c h. same-eq _ _ (at (λ (k : ℕ). same (longMark (rowAt temporalWords k)) (isCode (22 ∷ 23 ∷ []) k)) 0 77 tt c (omega arith) h))
-    (λ c h. rw (past-row c h) (sym (no-code (22 ∷ 23 ∷ []) c tt h)))
+    (λ c h. same-eq _ _ (at (λ (k : ℕ). same (longMark (rowAt temporalWords k)) (isCode (22 ∷ 23 ∷ 72 ∷ 74 ∷ []) k)) 0 77 tt c (omega arith) h))
+    (λ c h. rw (past-row c h) (sym (no-code (22 ∷ 23 ∷ 72 ∷ 74 ∷ []) c tt h)))
 
 pub name-marks : (c : ℕ) → nameMark (rowAt temporalWords c) ≡ isCode (27 ∷ 43 ∷ []) c
 unfolding temporalWords isCode
@@ -112,7 +112,7 @@ call-marks =
 -- with a figure for names the longest texts are format's
 pub longest-marks : (most c : ℕ) → longestOf most (rowAt temporalWords c) ≡ longestNamed most c
 unfolding isName longestNamed longestText
-longest-marks most c = rw (name-marks c, long-marks c) (go (isCode (27 ∷ 43 ∷ []) c) (isCode (22 ∷ 23 ∷ []) c))
+longest-marks most c = rw (name-marks c, long-marks c) (go (isCode (27 ∷ 43 ∷ []) c) (isCode (22 ∷ 23 ∷ 72 ∷ 74 ∷ []) c))
   where
     go : (name long : Bool)
         → pick name most (pick long 255 64)

@@ -285,9 +285,9 @@ rows =
     ∷ unused
     ∷ unused
     ∷ unused
+    ∷ long spelled  -- 72 a provider's string, which no sort has here: its value is a text's length on every tape
     ∷ unused
-    ∷ unused
-    ∷ unused
+    ∷ long spelled  -- 74 a provider's decimal
     ∷ unused
     ∷ unused  -- 76
     ∷ []

@@ -2,6 +2,7 @@
 pub mod Pick
 pub mod Kind
 pub mod Grammar
+pub mod Provider
 pub mod Words
 pub mod Waits
 pub mod Stack

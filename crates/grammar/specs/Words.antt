@@ -8,6 +8,7 @@ use lib.Dec.{leb, ltb, eqb}
 use lib.ListN.{length, getD, replicate}
 use Rattle.format.specs.Tape.{textWidth}
 use Rattle.grammar.specs.Grammar.{Range, Follows, once, each, Sort, sorts, Mark, Row, rows}
+use Rattle.grammar.specs.Provider as provider
 use Rattle.grammar.specs.Pick.{pick}
 
 -- ------------------------------------------------------------------ how it is written
@@ -48,6 +49,10 @@ rowWord r = followsWord (r .follows) + 0x40000000 * r .values + marksWord (r .ma
 -- the table of document 01
 unfoldable pub temporalWords : List ℕ
 temporalWords = map sortWord sorts ++ (replicate (32 - length sorts) 0 ++ map rowWord rows)
+
+-- the table of provider tapes
+unfoldable pub providerWords : List ℕ
+providerWords = map sortWord provider.sorts ++ (replicate (32 - length provider.sorts) 0 ++ map rowWord provider.rows)
 
 -- ------------------------------------------------------------------ what is read there
 

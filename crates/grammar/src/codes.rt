@@ -55,25 +55,25 @@ pub const PARAMETERS: u64 = 23;
 pub const DEFINITIONS: u64 = 24;
 
 // What follows at a place of a sort is the sort's own to say; and such a list has 16 items at the most.
-const OWN: u64 = 0x1_0000_0000;
+pub const OWN: u64 = 0x1_0000_0000;
 
 const FEW: u64 = 0x4000_0000_0000_0000;
 
 // The marks of a code: its value is a text's length, of up to 255 bytes, or of a name's; it counts in nesting; in an input it counts for
 // two more, being rewritten to three nodes on each path; it is a call; it counts in nesting and may have others in it that do.
-const TEXT_MARK: u64 = 0x2_0000_0000;
+pub const TEXT_MARK: u64 = 0x2_0000_0000;
 
-const LONG_MARK: u64 = 0x4_0000_0000;
+pub const LONG_MARK: u64 = 0x4_0000_0000;
 
 const NAME_MARK: u64 = 0x8_0000_0000;
 
-const NODE_MARK: u64 = 0x10_0000_0000;
+pub const NODE_MARK: u64 = 0x10_0000_0000;
 
 const TWO_MORE_MARK: u64 = 0x20_0000_0000;
 
 const CALL_MARK: u64 = 0x40_0000_0000;
 
-const INNER_MARK: u64 = 0x80_0000_0000 + NODE_MARK;
+pub const INNER_MARK: u64 = 0x80_0000_0000 + NODE_MARK;
 
 // No such code.
 const UNUSED: u64 = 0o1_00_00_00_00_00;
@@ -187,9 +187,9 @@ const GRAMMAR: [u64; 109] = [
     UNUSED,
     UNUSED,
     UNUSED,
+    TEXT_MARK + LONG_MARK, // 72 a provider's string: no sort has it
     UNUSED,
-    UNUSED,
-    UNUSED,
+    TEXT_MARK + LONG_MARK, // 74 a provider's decimal
     UNUSED,
     UNUSED, // 76
 ];

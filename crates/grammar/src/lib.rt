@@ -3,4 +3,5 @@
 pub mod codes;
 pub mod entry;
 pub mod kind;
+pub mod provider;
 pub mod stack;

@@ -14,6 +14,7 @@ ghost use Rattle.definition.specs.Preview.{previewAnswer};
 ghost use Rattle.definition.specs.Library.{libraryAnswer, checkAtAnswer};
 ghost use Rattle.definition.specs.Merge.{mergeAnswer};
 ghost use Rattle.definition.specs.Profile.{profileAnswer};
+ghost use Rattle.definition.specs.Provider.{providerAnswer, argumentToTermAnswer, termToArgumentAnswer};
 ghost use Rattle.answer.specs.Matches.{buffers};
 ghost use Rattle.neukolja.specs.Words.{wordsOf, wordsWith, sevenOf, sevenWith};
 
@@ -205,4 +206,25 @@ pub extern "C" fn neukolja_profile(condition: &[u8], answer: &mut [u64; 5])
     ensures { λ _. ⌜ wordsWith (now (answer .exit)) [] [] [] ≡ profileAnswer (now (condition .entry)) ⌝ }
 {
     write_words(profile::profile(condition), answer);
+}
+
+#[no_mangle]
+pub extern "C" fn neukolja_provider(tape: &[u8], answer: &mut [u64; 5])
+    ensures { λ _. ⌜ wordsWith (now (answer .exit)) [] [] [] ≡ providerAnswer (now (tape .entry)) ⌝ }
+{
+    write_words(provider::provider(tape), answer);
+}
+
+#[no_mangle]
+pub extern "C" fn neukolja_argument_to_term(tape: &[u8], result: &mut [u8], answer: &mut [u64; 5])
+    ensures { λ _. ⌜ wordsWith (now (answer .exit)) (now (result .exit)) [] [] ≡ argumentToTermAnswer (length (now (result .entry))) (now (tape .entry)) ⌝ }
+{
+    write_words(provider::argument_to_term(tape, result), answer);
+}
+
+#[no_mangle]
+pub extern "C" fn neukolja_term_to_argument(tape: &[u8], result: &mut [u8], answer: &mut [u64; 5])
+    ensures { λ _. ⌜ wordsWith (now (answer .exit)) (now (result .exit)) [] [] ≡ termToArgumentAnswer (length (now (result .entry))) (now (tape .entry)) ⌝ }
+{
+    write_words(provider::term_to_argument(tape, result), answer);
 }

@@ -8,8 +8,11 @@ pub mod Passing
 pub mod Trees
 mod Found
 mod SmallTrees
+mod Shapes
 mod Typed
 mod Places
 pub mod Acceptance
 pub mod Runs
 pub mod Roots
+mod ProviderTrees
+pub mod ProviderRoots

@@ -17,8 +17,7 @@ use Rattle.format.specs.Stands.{Stands}
 use Rattle.format.specs.Tape.{Reading, Root, conditionRoot, termRoot, callRoot, definitionRoot, registryRoot, namedRoot, longestNamed, textsWithin, shortTexts, fewParams, fewParamsEach, small, accept, Bytes}
 use Rattle.format.proofs.Accepted.{Values64, InRange, accepted-on-tape}
 use Rattle.format.proofs.Builds.{Rooted, rooted-condition, rooted-call, rooted-definition, rooted-registry}
-use Rattle.format.proofs.Exact.{lawful-named}
-use Rattle.format.proofs.LastYear.{lawful-term}
+use Rattle.format.proofs.Exact.{lawful-named, lawful-term}
 use Rattle.format.proofs.Rewritten.{Rewrites}
 use Rattle.format.proofs.Spells.{s-condition-root, s-call, s-definition, s-registry-root}
 use Rattle.format.proofs.Stands.{stands-encoded}
@@ -61,7 +60,7 @@ short-entries : (es : List Entry) → (shortIn temporalWords 64 es && leb (lengt
     ≡ (shortTexts es && leb (length es + 3 * tally 2 es) 1024)
 short-entries es = ap (λ (b : Bool). b && leb (length es + 3 * tally 2 es) 1024) (named-texts 64 es ∙ short-texts es)
 
-depth-limits : (nodes : ℕ) (few : Bool) {calls calls′ : ℕ} → calls ≡ calls′
+pub depth-limits : (nodes : ℕ) (few : Bool) {calls calls′ : ℕ} → calls ≡ calls′
     → (leb nodes 64 && (leb calls 4 && few)) ≡ (fitsDepths nodes calls′ && few)
 unfolding fitsDepths
 depth-limits nodes few {calls} {calls′} e =

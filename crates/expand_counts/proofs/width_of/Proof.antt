@@ -10,11 +10,11 @@ use Rattle.expand_counts.proofs.Steps.{textRows, by-text}
 use Rattle.expand_counts.proofs.width_of.Statement.{statement}
 use Rattle.expand_counts.proofs.width_of.Tie as tie
 
-returns-13 : tie.Need-returns-13
+returns-15 : tie.Need-returns-15
 unfolding isText
-returns-13 c =
+returns-15 c =
     let a = c .before .args in
-    let texts : List ℕ = 22 ∷ 23 ∷ 27 ∷ 32 ∷ 33 ∷ 40 ∷ 43 ∷ 44 ∷ 45 ∷ 52 ∷ 58 ∷ 59 ∷ [] in
+    let texts : List ℕ = 22 ∷ 23 ∷ 27 ∷ 32 ∷ 33 ∷ 40 ∷ 43 ∷ 44 ∷ 45 ∷ 52 ∷ 58 ∷ 59 ∷ 72 ∷ 74 ∷ [] in
     sym (no-row (Unit {0}) (textRows (a .value) texts) 0 (a .code) (c .match .rest)) ∙ by-text texts (a .code) (a .value)
 
 pub width-of-spec : {M : Type 1} → statement M
@@ -34,4 +34,6 @@ width-of-spec =
     (λ c. rw (c .match .keys10))
     (λ c. rw (c .match .keys11))
     (λ c. rw (c .match .keys12))
-    returns-13)
+    (λ c. rw (c .match .keys13))
+    (λ c. rw (c .match .keys14))
+    returns-15)

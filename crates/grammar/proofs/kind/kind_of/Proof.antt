@@ -36,7 +36,7 @@ numbered-number Plain = refl
 -- the single numbers of the match
 abbrev single : ℕ → Bool
 single k =
-    eqb k 27 || (eqb k 40 || (eqb k 52 || (eqb k 42 || (eqb k 54 || (eqb k 60 || (eqb k 29 || (eqb k 41 || eqb k 47)))))))
+    eqb k 27 || (eqb k 40 || (eqb k 52 || (eqb k 72 || (eqb k 74 || (eqb k 42 || (eqb k 54 || (eqb k 60 || (eqb k 70 || (eqb k 29 || (eqb k 41 || (eqb k 47 || (eqb k 71 || eqb k 76))))))))))))
 
 -- an alternative that is ruled out leaves the other
 past : (k n : ℕ) (b : Bool) → (k ≡ n → ⊥) → T (eqb k n || b) → T b
@@ -48,15 +48,12 @@ past k n b ne t = go (eqb k n) (eqb→eq k n) t
 
 abbrev Rest : ℕ → Type 0
 Rest k =
-    ((Unit {0} × ((k ≡ 27) ⊎ ((k ≡ 40) ⊎ (k ≡ 52)) → ⊥)) × ((k ≡ 42) ⊎ ((k ≡ 54) ⊎ (k ≡ 60)) → ⊥))
-    × ((k ≡ 29) ⊎ ((k ≡ 41) ⊎ (k ≡ 47)) → ⊥)
+    ((Unit {0} × ((k ≡ 27) ⊎ ((k ≡ 40) ⊎ ((k ≡ 52) ⊎ ((k ≡ 72) ⊎ (k ≡ 74)))) → ⊥)) × ((k ≡ 42) ⊎ ((k ≡ 54) ⊎ ((k ≡ 60) ⊎ (k ≡ 70))) → ⊥))
+    × ((k ≡ 29) ⊎ ((k ≡ 41) ⊎ ((k ≡ 47) ⊎ ((k ≡ 71) ⊎ (k ≡ 76)))) → ⊥)
 
 not-single : (k : ℕ) (b : Bool) → Rest k → T (single k || b) → T b
-not-single k b r t = go (single k) (λ s. r .1 (inr (inr (eqb→eq k 47
-    (past k 41 _ (λ e. r .1 (inr (inl e))) (past k 29 _ (λ e. r .1 (inl e))
-    (past k 60 _ (λ e. r .0 .1 (inr (inr e))) (past k 54 _ (λ e. r .0 .1 (inr (inl e))) (past k 42 _ (λ e. r .0 .1 (inl e))
-    (past k 52 _ (λ e. r .0 .0 .1 (inr (inr e)))
-    (past k 40 _ (λ e. r .0 .0 .1 (inr (inl e))) (past k 27 _ (λ e. r .0 .0 .1 (inl e)) s))))))))))))
+not-single k b r t = go (single k) (λ s. r .1 (inr (inr (inr (inr (eqb→eq k 76
+    (past k 71 _ (λ e. r .1 (inr (inr (inr (inl e))))) (past k 47 _ (λ e. r .1 (inr (inr (inl e)))) (past k 41 _ (λ e. r .1 (inr (inl e))) (past k 29 _ (λ e. r .1 (inl e)) (past k 70 _ (λ e. r .0 .1 (inr (inr (inr e)))) (past k 60 _ (λ e. r .0 .1 (inr (inr (inl e)))) (past k 54 _ (λ e. r .0 .1 (inr (inl e))) (past k 42 _ (λ e. r .0 .1 (inl e)) (past k 74 _ (λ e. r .0 .0 .1 (inr (inr (inr (inr e))))) (past k 72 _ (λ e. r .0 .0 .1 (inr (inr (inr (inl e))))) (past k 52 _ (λ e. r .0 .0 .1 (inr (inr (inl e)))) (past k 40 _ (λ e. r .0 .0 .1 (inr (inl e))) (past k 27 _ (λ e. r .0 .0 .1 (inl e)) s)))))))))))))))))))
     t
   where
     go : (x : Bool) → (T x → ⊥) → T (x || b) → T b
@@ -110,7 +107,7 @@ returns-7 c = ranged Plain 60 196 tt (c .before .before .before .before .before 
 
 returns-8 : tie.Need-returns-8
 unfolding kindOf isText isSpan isCount isCode
-returns-8 c = ⊎-elim (λ e. rw e refl) (λ s. ⊎-elim (λ e. rw e refl) (λ e. rw e refl) s) (c .match .keys3)
+returns-8 c = ⊎-elim (λ e. rw e refl) (λ s. ⊎-elim (λ e. rw e refl) (λ s. ⊎-elim (λ e. rw e refl) (λ s. ⊎-elim (λ e. rw e refl) (λ e. rw e refl) s) s) s) (c .match .keys3)
 
 returns-9 : tie.Need-returns-9
 unfolding kindOf isText isSpan isCount isCode
@@ -119,7 +116,7 @@ returns-9 c = ranged Count 25 2 tt (c .before .before .before .before .before .b
 
 returns-10 : tie.Need-returns-10
 unfolding kindOf isText isSpan isCount isCode
-returns-10 c = ⊎-elim (λ e. rw e refl) (λ s. ⊎-elim (λ e. rw e refl) (λ e. rw e refl) s) (c .match .keys1)
+returns-10 c = ⊎-elim (λ e. rw e refl) (λ s. ⊎-elim (λ e. rw e refl) (λ s. ⊎-elim (λ e. rw e refl) (λ s. ⊎-elim (λ e. rw e refl) (λ e. rw e refl) s) s) s) (c .match .keys1)
 
 returns-11 : tie.Need-returns-11
 unfolding kindOf isText isSpan isCount isCode
@@ -143,7 +140,7 @@ returns-14 c = ranged Text 58 2 tt (c .before .before .before .before .before .b
 
 returns-15 : tie.Need-returns-15
 unfolding kindOf isText isSpan isCount isCode
-returns-15 c = ⊎-elim (λ e. rw e refl) (λ s. ⊎-elim (λ e. rw e refl) (λ e. rw e refl) s) (c .match .keys2)
+returns-15 c = ⊎-elim (λ e. rw e refl) (λ s. ⊎-elim (λ e. rw e refl) (λ s. ⊎-elim (λ e. rw e refl) (λ e. rw e refl) s) s) (c .match .keys2)
 
 returns-16 : tie.Need-returns-16
 unfolding kindOf isText isSpan isCount isCode
