@@ -4,9 +4,9 @@
 use std::path::Path;
 
 #[rustfmt::skip]
-const OPERATIONS: [&str; 14] = [
+const OPERATIONS: [&str; 16] = [
     "check", "registry", "substitute", "expand", "preview", "check_library", "check_at", "judge", "merge", "older",
-    "profile", "provider", "argument_to_term", "term_to_argument",
+    "profile", "provider", "argument_to_term", "term_to_argument", "sheet_open", "sheet_next",
 ];
 
 fn main() {

@@ -40,6 +40,20 @@ extern "C" {
  * 255 definitions at the most, and a count stays at 4,294,967,295. */
 #define NEUKOLJA_COUNTS_LENGTH 255u
 
+/* the longest house sheet, its count and lengths among the bytes, and the most conditions in one */
+#define NEUKOLJA_SHEET_SIZE 65536u
+#define NEUKOLJA_SHEET_CONDITIONS 32u
+
+/* the places of a house sheet's state */
+enum {
+    NEUKOLJA_SHEET_AT = 0,              /* where the next condition begins */
+    NEUKOLJA_SHEET_LEFT = 1,            /* how many are left */
+    NEUKOLJA_SHEET_CHARGED = 2,         /* what was charged so far */
+    NEUKOLJA_SHEET_BUDGET = 3,
+    NEUKOLJA_SHEET_FILE = 4,
+    NEUKOLJA_SHEET_STATE_LENGTH = 5
+};
+
 /* the places of an answer */
 enum {
     NEUKOLJA_NUMBER = 0,
@@ -93,6 +107,7 @@ enum {
     NEUKOLJA_TOO_LONG_INTERVAL = 55,    /* .. an interval outside 0 to one day; has the span of the nearest
                                            condition around it */
     NEUKOLJA_HAS_A_FIELD = 56,          /* a field (71) anywhere in an argument that is to become a term */
+    NEUKOLJA_SHEET_TOO_LARGE = 57,      /* a house sheet alone: more than 32 conditions or 65,536 bytes */
     NEUKOLJA_NOT_AN_ARGUMENT = 58       /* a term that no argument becomes */
 };
 
@@ -235,6 +250,31 @@ void neukolja_argument_to_term(const uint8_t *tape, size_t tape_length,
 void neukolja_term_to_argument(const uint8_t *tape, size_t tape_length,
                                uint8_t *result, size_t result_length,
                                uint64_t answer[5]);
+
+/* Opens a house sheet, a 4-byte count and for each condition a 4-byte length and its tape, to be gone through under one budget and one
+ * file number (see neukolja_expand). First come the refusals of the registry, then 57, then 2 for a sheet that its count and lengths do
+ * not fill exactly. A condition that is refused is no refusal of the sheet. Nothing is charged.
+ * message: the message of a refusal, then zeros to the end; all zeros on success.
+ * state:   the start of the sheet; none is left of a refused one. */
+void neukolja_sheet_open(const uint8_t *registry, size_t registry_length,
+                         const uint8_t *sheet, size_t sheet_length,
+                         uint32_t budget, uint16_t file,
+                         uint8_t *message, size_t message_length,
+                         uint64_t state[5], uint64_t answer[5]);
+
+/* The next condition of a sheet, expanded with what is left of the budget as its limit; call it with the same registry and sheet until
+ * none is left. A refused condition, whatever its number, 1 too, does not stop the others, and what it charged stays. Buffers, counts and
+ * answer are those of neukolja_expand. A step when none is left answers 0 and leaves state and counts.
+ * state:   the state before, and afterwards that behind the condition. Any five numbers are answered: a condition that does not lie in the
+ *          sheet is an empty one, which is 2, and the place then stays; nothing is left of a budget below what was charged, and a
+ *          limit or file number that is too large is the largest one. */
+void neukolja_sheet_next(const uint8_t *registry, size_t registry_length,
+                         const uint8_t *sheet, size_t sheet_length,
+                         uint64_t state[5],
+                         uint8_t *result, size_t result_length,
+                         uint8_t *work, size_t work_length,
+                         uint8_t *message, size_t message_length,
+                         uint32_t counts[255], uint64_t answer[5]);
 
 #ifdef __cplusplus
 }

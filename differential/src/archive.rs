@@ -15,6 +15,8 @@ pub fn linked() -> Option<Box<dyn Machine>> {
 #[cfg(archive)]
 mod functions {
     use crate::case::{Case, Counts, Operation};
+    #[cfg(archive_has = "sheet_open")]
+    use crate::compare::State;
     use crate::compare::{Lent, Machine};
 
     // In C a slice is two parameters, its pointer and its length; the counts and the answer are arrays, the pointer alone.
@@ -84,6 +86,17 @@ mod functions {
         fn neukolja_term_to_argument(
             tape: *const u8, tape_len: usize, result: *mut u8, result_len: usize, answer: *mut [u64; 5],
         );
+        #[cfg(archive_has = "sheet_open")]
+        fn neukolja_sheet_open(
+            registry: *const u8, registry_len: usize, sheet: *const u8, sheet_len: usize, budget: u32, file: u16,
+            message: *mut u8, message_len: usize, state: *mut State, answer: *mut [u64; 5],
+        );
+        #[cfg(archive_has = "sheet_next")]
+        fn neukolja_sheet_next(
+            registry: *const u8, registry_len: usize, sheet: *const u8, sheet_len: usize, state: *mut State,
+            result: *mut u8, result_len: usize, work: *mut u8, work_len: usize, message: *mut u8, message_len: usize,
+            counts: *mut Counts, answer: *mut [u64; 5],
+        );
     }
 
     pub struct Archive;
@@ -105,6 +118,7 @@ mod functions {
                 Operation::Provider => cfg!(archive_has = "provider"),
                 Operation::ArgumentToTerm => cfg!(archive_has = "argument_to_term"),
                 Operation::TermToArgument => cfg!(archive_has = "term_to_argument"),
+                Operation::Sheet => false,
             }
         }
 
@@ -176,6 +190,39 @@ mod functions {
                     #[allow(unreachable_patterns)]
                     _ => unreachable!("the archive has no {}", case.operation.name()),
                 }
+            }
+        }
+
+        fn has_steps(&self) -> bool {
+            cfg!(all(archive_has = "sheet_open", archive_has = "sheet_next"))
+        }
+
+        #[cfg(archive_has = "sheet_open")]
+        #[rustfmt::skip]
+        fn open_sheet(&mut self, case: &Case, lent: Lent, state: &mut State) {
+            let (a, b, m) = (&case.tapes[0], &case.tapes[1], lent.message);
+            let answer = lent.answer.first_chunk_mut::<5>().expect("seven words");
+            // SAFETY: as in `run`.
+            unsafe {
+                neukolja_sheet_open(
+                    a.as_ptr(), a.len(), b.as_ptr(), b.len(), case.limit, case.file, m.as_mut_ptr(), m.len(), state,
+                    answer,
+                );
+            }
+        }
+
+        #[cfg(archive_has = "sheet_next")]
+        #[rustfmt::skip]
+        fn next_of_sheet(&mut self, case: &Case, lent: Lent, state: &mut State) {
+            let (a, b) = (&case.tapes[0], &case.tapes[1]);
+            let Lent { result: r, work: w, message: m, counts, answer } = lent;
+            let answer = answer.first_chunk_mut::<5>().expect("seven words");
+            // SAFETY: as in `run`.
+            unsafe {
+                neukolja_sheet_next(
+                    a.as_ptr(), a.len(), b.as_ptr(), b.len(), state, r.as_mut_ptr(), r.len(), w.as_mut_ptr(), w.len(),
+                    m.as_mut_ptr(), m.len(), counts, answer,
+                );
             }
         }
     }

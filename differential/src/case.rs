@@ -18,9 +18,11 @@ pub enum Operation {
     Provider,
     ArgumentToTerm,
     TermToArgument,
+    /// The house sheet's program: its one tape is what it reads, its result what it prints.
+    Sheet,
 }
 
-pub const OPERATIONS: [Operation; 14] = [
+pub const OPERATIONS: [Operation; 15] = [
     Operation::Check,
     Operation::Registry,
     Operation::Substitute,
@@ -35,6 +37,7 @@ pub const OPERATIONS: [Operation; 14] = [
     Operation::Provider,
     Operation::ArgumentToTerm,
     Operation::TermToArgument,
+    Operation::Sheet,
 ];
 
 impl Operation {
@@ -54,6 +57,7 @@ impl Operation {
             Operation::Provider => "provider",
             Operation::ArgumentToTerm => "argument_to_term",
             Operation::TermToArgument => "term_to_argument",
+            Operation::Sheet => "sheet",
         }
     }
 
@@ -74,6 +78,7 @@ impl Operation {
             Operation::Provider => 12,
             Operation::ArgumentToTerm => 13,
             Operation::TermToArgument => 14,
+            Operation::Sheet => 15,
         }
     }
 
@@ -91,6 +96,7 @@ impl Operation {
             Operation::Provider => &[Sort::Provider],
             Operation::ArgumentToTerm => &[Sort::ProviderArgument],
             Operation::TermToArgument => &[Sort::Term],
+            Operation::Sheet => &[],
         }
     }
 
@@ -112,6 +118,7 @@ impl Operation {
             Operation::Preview => [0, LEAST_WORK, LEAST_MESSAGE],
             Operation::Older | Operation::ArgumentToTerm | Operation::TermToArgument => [LEAST_RESULT, 0, 0],
             Operation::Profile | Operation::Provider => [0; 3],
+            Operation::Sheet => [LINES, 0, 0],
         }
     }
 
@@ -129,6 +136,9 @@ impl Operation {
 /// The most definitions that a registry's tape has room for. The registry state has a count for each.
 pub const COUNTS: usize = 255;
 pub type Counts = [u32; COUNTS];
+
+/// Room for what the program prints: 32 lines of five numbers.
+const LINES: usize = 4_096;
 
 const LEAST_RESULT: usize = 12_296;
 const LEAST_WORK: usize = 65_536;

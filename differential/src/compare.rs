@@ -5,6 +5,7 @@ use crate::judge::{self, Names};
 use crate::model::{self, Notes, TooLarge};
 use crate::profile;
 use crate::provider;
+use crate::sheet;
 use crate::tape::{self, LARGEST, LARGEST_TEXT, Node, Sort};
 use crate::upstream::{self, End, Reach, Run};
 use std::collections::BTreeSet;
@@ -44,6 +45,9 @@ pub fn expected(case: &Case) -> Result<(Answer, Notes, Witness), String> {
 }
 
 fn hear_upstream(case: &Case, answer: &Answer, notes: &Notes) -> Result<Witness, String> {
+    if case.operation == Operation::Sheet {
+        return hear_of_sheet(&case.tapes[0]);
+    }
     if notes.trees.is_empty() {
         return Ok(Witness::ModelAlone);
     }
@@ -135,6 +139,19 @@ fn run(case: &Case, trees: &[Node], reach: Reach) -> Run {
         (Operation::Judge, [definitions, condition, _]) => upstream::expand(definitions, condition, reach),
         _ => unreachable!("all tapes were read"),
     }
+}
+
+/// Each condition of a sheet is an expansion. Charges and counts go from one to the next.
+fn hear_of_sheet(input: &[u8]) -> Result<Witness, String> {
+    let Some((registry, sheet)) = sheet::split(input) else { return Ok(Witness::ModelAlone) };
+    let Ok(conditions) = sheet::open(registry, sheet) else { return Ok(Witness::ModelAlone) };
+    let mut charged = 0;
+    for (case, answer) in sheet::steps(registry, &conditions, sheet::LIMIT, sheet::FILE, [0; COUNTS]) {
+        same("what is left of the budget", &u64::from(case.limit), &(u64::from(sheet::LIMIT) - charged))?;
+        same("the expansion of a condition", &expected(&case)?.0, &answer)?;
+        charged += answer.charged;
+    }
+    Ok(Witness::Upstream)
 }
 
 /// The same trees in upstream's types, turned there; and what was turned, turned back.
@@ -252,7 +269,7 @@ fn agrees(run: &Run, answer: &Answer, notes: &Notes) -> Result<(), String> {
     }
 }
 
-fn same<T: PartialEq + std::fmt::Debug>(what: &str, upstream: &T, model: &T) -> Result<(), String> {
+fn same<T: PartialEq + std::fmt::Debug + ?Sized>(what: &str, upstream: &T, model: &T) -> Result<(), String> {
     if upstream == model {
         return Ok(());
     }
@@ -277,7 +294,21 @@ pub trait Machine {
     }
 
     fn run(&mut self, case: &Case, lent: Lent);
+
+    /// Whether a sheet can be gone through step by step.
+    fn has_steps(&self) -> bool {
+        false
+    }
+
+    /// Opens the sheet of a case whose tapes are registry and sheet, under its limit and file.
+    fn open_sheet(&mut self, _: &Case, _: Lent, _: &mut State) {}
+
+    /// The next condition of that sheet.
+    fn next_of_sheet(&mut self, _: &Case, _: Lent, _: &mut State) {}
 }
+
+/// A sheet's state: where the next condition begins, how many are left, charged so far, budget, file number.
+pub type State = [u64; 5];
 
 /// A byte around and in every buffer before a run. Not zero, so that what is not written is seen.
 const FILL: u8 = 0xA5;
@@ -319,12 +350,42 @@ impl Framed {
     }
 }
 
+/// Goes through a sheet with a machine's own steps, and compares each answer, each buffer, the counts and the state.
+pub fn judge_steps(machine: &mut dyn Machine, input: &[u8], budget: u32, file: u16) -> Result<(), String> {
+    let Some((registry, sheet)) = sheet::split(input) else { return Ok(()) };
+    let opened = sheet::open(registry, sheet);
+    let tapes = vec![registry.to_vec(), sheet.to_vec()];
+    let case = Case { file, ..Case::new(Operation::Expand, budget, tapes) };
+    let none = Answer::success([0; COUNTS]);
+    let mut state = [u64::MAX; 5];
+    let open = Case { sizes: [0, 0, case.sizes[2]], ..case.clone() };
+    judge_with(&open, opened.as_ref().err().unwrap_or(&none), |lent| machine.open_sheet(&case, lent, &mut state))?;
+    let Ok(conditions) = opened else { return Ok(()) };
+    let mut expected = [conditions.len() as u64, 0, u64::from(budget), u64::from(file)];
+    let counts = std::array::from_fn(|i| if i % 2 == 0 { 0 } else { u32::MAX - 1 });
+    let mut last = counts;
+    for (step, answer) in sheet::steps(registry, &conditions, budget, file, counts) {
+        same("the state", &state[1..], &expected[..])?;
+        judge_with(&step, &answer, |lent| machine.next_of_sheet(&case, lent, &mut state))?;
+        (expected[0], expected[1]) = (expected[0] - 1, expected[1] + answer.charged);
+        last = answer.counts;
+    }
+    let (done, behind) = (state, Case { counts: last, ..case.clone() });
+    let zeros = Answer::success(last);
+    judge_with(&behind, &zeros, |lent| machine.next_of_sheet(&case, lent, &mut state))?;
+    same("the state of a sheet that is done", &state, &done)
+}
+
 /// Runs a machine on a case and compares the five numbers (of preview seven), every byte of the three buffers and the counts.
 pub fn judge(machine: &mut dyn Machine, case: &Case, answer: &Answer) -> Result<(), String> {
+    judge_with(case, answer, |lent| machine.run(case, lent))
+}
+
+fn judge_with(case: &Case, answer: &Answer, run: impl FnOnce(Lent)) -> Result<(), String> {
     let [mut result, mut work, mut message] = case.sizes.map(Framed::new);
     let (mut words, mut counts) = ([u64::MAX; 7], case.counts);
     let [r, w, m] = [&mut result, &mut work, &mut message].map(Framed::inner);
-    machine.run(case, Lent { result: r, work: w, message: m, counts: &mut counts, answer: &mut words });
+    run(Lent { result: r, work: w, message: m, counts: &mut counts, answer: &mut words });
     let mut expected = answer.words();
     if case.operation != Operation::Preview {
         expected[5..].fill(u64::MAX);

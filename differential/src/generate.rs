@@ -9,13 +9,14 @@ use crate::model::{self, Walk};
 use crate::profile;
 use crate::provider;
 use crate::random::Random;
+use crate::sheet;
 use crate::tape::{self, LARGEST_CALLS, LARGEST_PARAMETERS, LARGEST_TEXT, Node, UNBOUNDED};
 use crate::texts;
 use crate::trees::{DEPTH, Ground, MOST_DEFINITIONS, Macro, Style, Trees};
 
 /// The operation of a case is drawn first.
 fn draw(random: &mut Random) -> Operation {
-    OPERATIONS[random.weighted(&[10, 6, 21, 25, 5, 3, 3, 8, 6, 3, 4, 2, 2, 2])]
+    OPERATIONS[random.weighted(&[10, 6, 21, 25, 5, 3, 3, 8, 6, 3, 3, 2, 2, 2, 1])]
 }
 
 pub fn operation(seed: u64, index: u64) -> Operation {
@@ -26,6 +27,11 @@ pub fn operation(seed: u64, index: u64) -> Operation {
 pub fn case(seed: u64, index: u64) -> Case {
     let random = &mut Random::of_case(seed, index);
     let operation = draw(random);
+    if operation == Operation::Sheet {
+        let g = &mut trees(random);
+        let registry = a_registry(g);
+        return Case::new(operation, sheet::LIMIT, vec![sheet::input(g, &registry)]);
+    }
     let file = if operation.charges() { file(random) } else { 0 };
     let input = match random.weighted(&[76, 11, 10, 3]) {
         0 => input(random, operation),
@@ -125,6 +131,7 @@ fn input(random: &mut Random, operation: Operation) -> Input {
             let term = provider::term_of(&provider::argument(g, DEPTH, false)).expect("no field");
             Input { first: if g.random.chance(75) { term } else { g.term(Ground::Hidden, DEPTH) }, second: None }
         }
+        Operation::Sheet => unreachable!("not made of trees"),
         Operation::Profile => {
             g.style.day = true;
             Input { first: profile::condition(g, DEPTH), second: None }
@@ -302,6 +309,7 @@ fn many_calls(random: &mut Random, input: &mut Input, operation: Operation) {
         Operation::Expand | Operation::Preview | Operation::Judge => input.second = Some(condition),
         Operation::Profile => input.first = condition,
         Operation::TermToArgument => input.first = as_value(calls),
+        Operation::Sheet => unreachable!("not made of trees"),
         Operation::Provider | Operation::ArgumentToTerm => {
             let bools = vec![Node::new(75, 1, vec![]); LARGEST_PARAMETERS + random.below(4) - 1];
             input.first = Node::counted(76, 1, bools);
@@ -328,6 +336,7 @@ fn result_at_a_limit(random: &mut Random, operation: Operation, file: u16) -> In
         }
         Operation::Older | Operation::Profile => at_a_limit(random, operation),
         Operation::Provider | Operation::ArgumentToTerm | Operation::TermToArgument => at_a_limit(random, operation),
+        Operation::Sheet => unreachable!("not made of trees"),
         Operation::Merge => merge_at_a_limit(random, figure),
         Operation::Substitute => {
             let mut input = multiplying(random, figure);

@@ -2,15 +2,17 @@
 
 use differential::case::{Answer, Case, OPERATIONS, Operation};
 use differential::compare::Machine;
+use differential::program::Program;
 use differential::tally::Tally;
 use differential::tape::{self, Node};
-use differential::{archive, compare, generate, model, record, upstream, vectors};
+use differential::{archive, compare, generate, model, record, sheet, upstream, vectors};
 use std::process::ExitCode;
 
 const USAGE: &str = "differential COMMAND
   run [--seed N] [--cases N] [--from N] [--only OPERATION,..]   compare on cases from a seed
   show [--seed N] [--from N]   print one of them, with its answer
   replay FILE                  compare on a list of vectors, and with what it expects
+  (run and replay take --program PATH, the house sheet's program)
   record FILE [--seed N] [--cases N] [--only OPERATION,..]   write the fixed list, from 400,000 cases";
 
 /// After so many differences a campaign ends.
@@ -21,10 +23,11 @@ fn main() -> ExitCode {
     let args: Vec<String> = std::env::args().skip(1).collect();
     let done = match args.first().map(String::as_str) {
         Some("run") => option(&args, "--seed", 1).and_then(|seed| {
-            Ok(run(seed, option(&args, "--from", 0)?, option(&args, "--cases", 100_000)?, &only(&args)?))
+            let (from, cases) = (option(&args, "--from", 0)?, option(&args, "--cases", 100_000)?);
+            Ok(run(seed, from, cases, &only(&args)?, machines(&args)?))
         }),
         Some("show") => option(&args, "--seed", 1).and_then(|seed| Ok(show(seed, option(&args, "--from", 0)?))),
-        Some("replay") if args.len() == 2 => replay(&args[1]),
+        Some("replay") if args.len() >= 2 => machines(&args).and_then(|machines| replay(&args[1], machines)),
         Some("record") if args.len() >= 2 => option(&args, "--seed", 1)
             .and_then(|seed| record(&args[1], seed, option(&args, "--cases", 400_000)?, &only(&args)?)),
         _ => Err(USAGE.to_string()),
@@ -55,38 +58,50 @@ fn only(args: &[String]) -> Result<Vec<Operation>, String> {
     named.split(',').map(find).collect()
 }
 
-fn machine() -> Option<Box<dyn Machine>> {
-    let machine = archive::linked();
-    match &machine {
+/// The archive, if one is linked, and the house sheet's program, if one is given.
+fn machines(args: &[String]) -> Result<Vec<Box<dyn Machine>>, String> {
+    let mut machines = Vec::new();
+    match archive::linked() {
         None => println!("without an archive: model and upstream alone"),
         Some(machine) => {
             let has: Vec<_> = OPERATIONS.into_iter().filter(|o| machine.has(*o)).map(Operation::name).collect();
-            println!("with the archive, which has {}", has.join(", "));
+            let steps = if machine.has_steps() { ", and the steps of a sheet" } else { "" };
+            println!("with the archive, which has {}{steps}", has.join(", "));
+            machines.push(machine);
         }
     }
-    machine
+    if let Some(i) = args.iter().position(|a| a == "--program") {
+        let path = args.get(i + 1).ok_or("the house sheet's program belongs behind --program")?.clone();
+        machines.push(Box::new(Program { path }));
+    }
+    Ok(machines)
 }
 
 /// Upstream, the model and the archive on one case.
-fn compare_all(case: &Case, machine: &mut Option<Box<dyn Machine>>, tally: &mut Tally) -> Result<Answer, String> {
+fn compare_all(case: &Case, machines: &mut [Box<dyn Machine>], tally: &mut Tally) -> Result<Answer, String> {
     let (answer, notes, witness) = compare::expected(case)?;
     tally.add(case, &answer, &notes, witness);
-    if let Some(machine) = machine
-        && machine.has(case.operation)
-    {
-        compare::judge(machine.as_mut(), case, &answer).map_err(|e| format!("the archive: {e}"))?;
+    for machine in machines {
+        if machine.has(case.operation) {
+            compare::judge(machine.as_mut(), case, &answer).map_err(|e| format!("the machine: {e}"))?;
+        }
+        if case.operation == Operation::Sheet && machine.has_steps() {
+            for (budget, file) in [(sheet::LIMIT, sheet::FILE), (0, 1), (25, 65_535), (u32::MAX, 9)] {
+                let steps = compare::judge_steps(machine.as_mut(), &case.tapes[0], budget, file);
+                steps.map_err(|e| format!("the steps, budget {budget}: {e}"))?;
+            }
+        }
     }
     Ok(answer)
 }
 
-fn run(seed: u64, from: u64, cases: u64, only: &[Operation]) -> bool {
-    let mut machine = machine();
+fn run(seed: u64, from: u64, cases: u64, only: &[Operation], mut machines: Vec<Box<dyn Machine>>) -> bool {
     let mut tally = Tally::default();
     let (mut index, mut ran, mut differences) = (from, 0, 0);
     while ran < cases && differences < ENOUGH {
         if only.contains(&generate::operation(seed, index)) {
             let case = generate::case(seed, index);
-            if let Err(difference) = compare_all(&case, &mut machine, &mut tally) {
+            if let Err(difference) = compare_all(&case, &mut machines, &mut tally) {
                 println!("case {index}, {}: {difference}", case.operation.name());
                 differences += 1;
             }
@@ -105,14 +120,13 @@ fn run(seed: u64, from: u64, cases: u64, only: &[Operation]) -> bool {
     differences == 0
 }
 
-fn replay(path: &str) -> Result<bool, String> {
+fn replay(path: &str, mut machines: Vec<Box<dyn Machine>>) -> Result<bool, String> {
     let bytes = std::fs::read(path).map_err(|e| format!("{path}: {e}"))?;
     let list = vectors::read(&bytes)?;
-    let mut machine = machine();
     let mut tally = Tally::default();
     let mut differences = 0;
     for (i, expected) in list.iter().enumerate() {
-        let outcome = compare_all(&expected.case, &mut machine, &mut tally).and_then(|answer| {
+        let outcome = compare_all(&expected.case, &mut machines, &mut tally).and_then(|answer| {
             let as_listed = answer.words() == expected.words
                 && vectors::without_zeros(&answer.result) == expected.result
                 && vectors::without_zeros(&answer.message) == expected.message

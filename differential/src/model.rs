@@ -9,6 +9,7 @@ use crate::merge;
 use crate::message;
 use crate::profile::profile;
 use crate::provider;
+use crate::sheet;
 use crate::tape::{self, LARGEST, LARGEST_CALLS, Largest, Measure, Node, Over, Sort, UNBOUNDED, Unread};
 use std::collections::BTreeSet;
 
@@ -141,7 +142,7 @@ pub fn without_limit(case: &Case) -> u64 {
 enum Made {
     Nothing,
     Tree(Node),
-    /// A list of refused definitions.
+    /// A list of refused definitions, or lines.
     List(Vec<u8>),
 }
 
@@ -210,6 +211,7 @@ fn operate(case: &Case, walk: &mut Walk, notes: &mut Notes) -> Result<Made, Refu
             Some(older) => Ok(Made::Tree(older)),
             None => refuse(52, 0, String::new()),
         },
+        (Operation::Sheet, []) => Ok(Made::List(sheet::lines(&case.tapes[0]).into_bytes())),
         (Operation::Provider, [_]) => Ok(Made::Nothing),
         (Operation::ArgumentToTerm, [argument]) => match provider::term_of(argument) {
             Some(term) => Ok(Made::Tree(term)),

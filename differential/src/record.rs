@@ -184,6 +184,8 @@ pub fn record(seed: u64, cases: u64, only: &[Operation]) -> Result<Vec<(Case, An
 /// For each thing that can be shown the smallest cases that show it.
 fn smallest(seed: u64, cases: u64, only: &[Operation]) -> Result<Vec<Candidate>, String> {
     let mut least: BTreeMap<(u8, Shows), Vec<(usize, u64)>> = BTreeMap::new();
+    // The program that replays the list cannot run another.
+    let only: Vec<_> = only.iter().copied().filter(|operation| *operation != Operation::Sheet).collect();
     for index in (0..cases).filter(|index| only.contains(&generate::operation(seed, *index))) {
         let candidate = Candidate::new(generate::case(seed, index))?;
         for shows in &candidate.shows {

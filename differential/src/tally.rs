@@ -20,6 +20,8 @@ pub fn possible(operation: Operation) -> Vec<u64> {
         Operation::Older => vec![0, 1, 2, 3, 52],
         Operation::Profile => vec![0, 2, 3, 53, 54, 55],
         Operation::Provider => vec![0, 2, 3],
+        // The numbers of its lines.
+        Operation::Sheet => [vec![0, 2, 3, 10, 11, 57], (30..=48).collect()].concat(),
         Operation::ArgumentToTerm => vec![0, 1, 2, 3, 56],
         Operation::TermToArgument => vec![0, 1, 2, 3, 58],
     }
@@ -43,7 +45,13 @@ const CLASSES: [usize; 9] = [0, 3, 20, 63, 255, 511, 767, 1023, 1024];
 
 impl Tally {
     pub fn add(&mut self, case: &Case, answer: &Answer, notes: &Notes, witness: Witness) {
-        *self.numbers.entry((answer.number, case.operation)).or_default() += 1;
+        if case.operation == Operation::Sheet {
+            let lines = str::from_utf8(&answer.result).expect("digits").lines();
+            let numbers = lines.filter_map(|line| line.split(' ').nth(1)?.parse().ok());
+            numbers.for_each(|number| *self.numbers.entry((number, case.operation)).or_default() += 1);
+        } else {
+            *self.numbers.entry((answer.number, case.operation)).or_default() += 1;
+        }
         *self.witnesses.entry(witness).or_default() += 1;
         if let Some(why) = notes.judged {
             *self.judged.entry((answer.number, why)).or_default() += 1;

@@ -111,8 +111,15 @@ impl<'a> Reader<'a> {
         let file = u16::from_le_bytes(self.take(2)?.try_into().expect("2 bytes"));
         let index = self.u32()?;
         let count = self.take(1)?[0];
-        let tapes = (0..count).map(|_| self.bytes()).collect::<Result<_, _>>()?;
-        let sizes = [self.u32()? as usize, self.u32()? as usize, self.u32()? as usize];
+        let mut tapes = (0..count).map(|_| self.bytes()).collect::<Result<Vec<_>, _>>()?;
+        if let (Operation::Sheet, [registry, sheet]) = (operation, &tapes[..]) {
+            // They are what the program reads, the registry with its length before it.
+            tapes = vec![[&(registry.len() as u32).to_le_bytes()[..], registry, sheet].concat()];
+        }
+        let mut sizes = [self.u32()? as usize, self.u32()? as usize, self.u32()? as usize];
+        if operation == Operation::Sheet {
+            sizes = operation.buffers();
+        }
         let given = !ours && self.take(1)?[0] == 1;
         let mut counts = if given { self.counts(4 * COUNTS)? } else { [0; COUNTS] };
         let mut words = [0; 7];

@@ -1,4 +1,4 @@
--- An answer as the five words that C reads, a preview as seven, and back.
+-- An answer as the five words that C reads, a preview as seven, and back; and the state of a house sheet.
 -- Assumes nothing.
 use Prim.Native.Nat.{ℕ}
 use mathlib.Core.List.{List, [], _∷_}
@@ -7,6 +7,7 @@ use Rattle.definition.specs.Answers as definition
 use Rattle.definition.specs.Preview.{Preview}
 use Rattle.answer.specs.declared.Answer.{Answer}
 use Rattle.preview.specs.declared.Previewed.{Previewed}
+use Rattle.sheet.specs.declared.Progress.{Progress}
 
 -- number, start, end, message length, charged
 abbrev pub wordsOf : Answer → List ℕ
@@ -36,3 +37,10 @@ sevenOf r =
 abbrev pub sevenWith : (words work message : List ℕ) → Preview
 sevenWith words work message =
     record { answered = wordsWith words [] work message; entries = getD words 5 0; textBytes = getD words 6 0 }
+
+-- the state of a house sheet: where the next condition begins, how many are left, charged so far, budget, file number
+abbrev pub progressWords : Progress → List ℕ
+progressWords p = p .at ∷ p .left ∷ p .charged ∷ p .budget ∷ p .file ∷ []
+
+abbrev pub progressIn : List ℕ → Progress
+progressIn words = record { at = getD words 0 0; left = getD words 1 0; charged = getD words 2 0; budget = getD words 3 0; file = getD words 4 0 }

@@ -18,6 +18,8 @@ ghost use Rattle.definition.specs.Provider.{providerAnswer, argumentToTermAnswe
 ghost use Rattle.answer.specs.Matches.{buffers};
 ghost use Rattle.neukolja.specs.Words.{wordsOf, wordsWith, sevenOf, sevenWith};
 
+mod sheet_steps;
+
 // The answer as five words: number, start, end, message length, charged.
 fn write_words(r: Answer, words: &mut [u64; 5])
     ensures { λ _. ⌜ now (words .exit) ≡ wordsOf r ⌝ }
