@@ -11,6 +11,7 @@ pub struct Vector {
     pub index: u32,
     pub first: usize,
     pub second: usize,
+    pub third: usize,
     pub sizes: usize,
     pub numbers: usize,
     pub result: usize,
@@ -71,7 +72,8 @@ pub fn read_vector(s: &[u8], at: usize) -> Vector {
     let tapes = read_size(s, past(s, at, 11)) % 256;
     let first = past(s, at, 12);
     let second = past_bytes(s, first);
-    let sizes = past_tape(s, second, 1 < tapes);
+    let third = past_tape(s, second, 1 < tapes);
+    let sizes = past_tape(s, third, 2 < tapes);
     let numbers = past(s, sizes, 12);
     let result = past(s, numbers, 56);
     let message = past_bytes(s, result);
@@ -84,6 +86,7 @@ pub fn read_vector(s: &[u8], at: usize) -> Vector {
         index,
         first,
         second,
+        third,
         sizes,
         numbers,
         result,

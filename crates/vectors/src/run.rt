@@ -94,6 +94,99 @@ fn build(registry: &[u8], message: &mut [u8], counts: &mut [u32; 255]) -> Answer
     built.answer
 }
 
+// The operations that take one tape.
+fn on_a_tape(
+    s: &[u8],
+    v: Vector,
+    result: &mut [u8],
+    message: &mut [u8],
+    counts: &mut [u32; 255],
+) -> Answer {
+    let tape = bytes(s, v.first);
+    match v.kind / 64 {
+        2 => build(tape, message, counts),
+        6 => check_library::check_library(tape, result, message),
+        7 => check_library::check_at(tape, v.index, message),
+        10 => older::older(tape, result),
+        11 => profile::profile(tape),
+        12 => provider::provider(tape),
+        13 => provider::argument_to_term(tape, result),
+        14 => provider::term_to_argument(tape, result),
+        _ => check_body::check(tape, message),
+    }
+}
+
+fn run_substitute(
+    s: &[u8],
+    v: Vector,
+    result: &mut [u8],
+    work: &mut [u8],
+    message: &mut [u8],
+) -> Answer {
+    let definition = bytes(s, v.first);
+    let call = bytes(s, v.second);
+    substitution::substitute(definition, call, v.limit, v.file, result, work, message)
+}
+
+fn run_expand(
+    s: &[u8],
+    v: Vector,
+    result: &mut [u8],
+    work: &mut [u8],
+    message: &mut [u8],
+    counts: &mut [u32; 255],
+) -> Answer {
+    let registry = bytes(s, v.first);
+    let condition = bytes(s, v.second);
+    expansion::expand_lent(
+        registry,
+        condition,
+        v.limit,
+        v.file,
+        result,
+        work,
+        message,
+        counts,
+    )
+}
+
+fn run_preview(s: &[u8], v: Vector, work: &mut [u8], message: &mut [u8]) -> Previewed {
+    preview::preview(
+        bytes(s, v.first),
+        bytes(s, v.second),
+        v.limit,
+        v.file,
+        work,
+        message,
+    )
+}
+
+fn run_judge(
+    s: &[u8],
+    v: Vector,
+    result: &mut [u8],
+    work: &mut [u8],
+    message: &mut [u8],
+) -> Answer {
+    let registry = bytes(s, v.first);
+    let condition = bytes(s, v.second);
+    let supplied = bytes(s, v.third);
+    judge::judge(
+        registry,
+        condition,
+        supplied,
+        v.limit,
+        v.file,
+        result,
+        work,
+        message,
+    )
+}
+
+fn run_merge(s: &[u8], v: Vector, result: &mut [u8], message: &mut [u8]) -> Answer {
+    merge::merge(bytes(s, v.first), bytes(s, v.second), result, message)
+}
+
 // An answer that has no sizes of a result beside it.
 fn without_sizes(answer: Answer) -> Previewed {
     Previewed {
@@ -111,35 +204,13 @@ fn run(
     message: &mut [u8],
     counts: &mut [u32; 255],
 ) -> Previewed {
-    let first = bytes(s, v.first);
-    let second = bytes(s, v.second);
-    let limit = v.limit;
     match v.kind / 64 {
-        1 => without_sizes(check_body::check(first, message)),
-        2 => without_sizes(build(first, message, counts)),
-        3 => without_sizes(substitution::substitute(
-            first,
-            second,
-            limit,
-            v.file,
-            result,
-            work,
-            message,
-        )),
-        5 => preview::preview(first, second, limit, v.file, work, message),
-        6 => without_sizes(check_library::check_library(first, result, message)),
-        7 => without_sizes(check_library::check_at(first, v.index, message)),
-        10 => without_sizes(older::older(first, result)),
-        _ => without_sizes(expansion::expand_lent(
-            first,
-            second,
-            limit,
-            v.file,
-            result,
-            work,
-            message,
-            counts,
-        )),
+        3 => without_sizes(run_substitute(s, v, result, work, message)),
+        4 => without_sizes(run_expand(s, v, result, work, message, counts)),
+        5 => run_preview(s, v, work, message),
+        8 => without_sizes(run_judge(s, v, result, work, message)),
+        9 => without_sizes(run_merge(s, v, result, message)),
+        _ => without_sizes(on_a_tape(s, v, result, message, counts)),
     }
 }
 

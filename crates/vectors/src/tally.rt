@@ -28,7 +28,13 @@ fn print_operation(operation: usize) -> bool {
         5 => io::write_all(STDOUT_FILENO, b"preview "),
         6 => io::write_all(STDOUT_FILENO, b"check_library "),
         7 => io::write_all(STDOUT_FILENO, b"check_at "),
+        8 => io::write_all(STDOUT_FILENO, b"judge "),
+        9 => io::write_all(STDOUT_FILENO, b"merge "),
         10 => io::write_all(STDOUT_FILENO, b"older "),
+        11 => io::write_all(STDOUT_FILENO, b"profile "),
+        12 => io::write_all(STDOUT_FILENO, b"provider "),
+        13 => io::write_all(STDOUT_FILENO, b"argument_to_term "),
+        14 => io::write_all(STDOUT_FILENO, b"term_to_argument "),
         _ => io::write_all(STDOUT_FILENO, b"unknown "),
     }
 }
