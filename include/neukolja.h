@@ -10,10 +10,13 @@
  * negations. The largest figures hold of the tape so rewritten too, which has three entries more for each 2 and nests two levels
  * deeper at each, and so do sizes, charges and messages. No result holds a 2.
  *
- * Stack: the walks recurse as deep as tapes nest. Measured at the deepest inputs on x86-64 (`bench stack`): neukolja_check 71,167
- * bytes, neukolja_registry 14,287, neukolja_check_library 75,359, neukolja_check_at 75,279, neukolja_substitute 146,463,
- * neukolja_expand 299,583, neukolja_preview 311,887, neukolja_older 22,495. A linker script or a thread must provide it, with what
- * the caller itself needs and some room on top: nothing checks it while a function runs.
+ * Stack: the walks recurse as deep as tapes nest. Measured at the deepest inputs on x86-64 (`bench stack`): neukolja_check 71,135
+ * bytes, neukolja_registry 15,495, neukolja_check_library 75,359, neukolja_check_at 75,263, neukolja_merge 43,423,
+ * neukolja_substitute 146,527, neukolja_expand 300,527, neukolja_preview 312,831, neukolja_judge 338,047,
+ * neukolja_older 22,599, neukolja_profile 22,583, neukolja_provider 10,071, neukolja_argument_to_term 10,103,
+ * neukolja_term_to_argument 10,199; the two of a sheet were not measured, and are registry's and expansion's with
+ * little on top. A linker script or a thread must provide it, with what the caller itself needs and some room on top: nothing
+ * checks it while a function runs.
  *
  * A function keeps nothing between calls, so several threads may call it at once, each with buffers of its own. What a call
  * writes to must not overlap anything else that it is given. No pointer may be null, not even with the length 0.

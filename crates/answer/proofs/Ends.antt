@@ -11,7 +11,7 @@ use Rattle.format.specs.Entry.{Text, encode}
 use Rattle.format.specs.Ast.{Tree}
 use Rattle.format.specs.Flat.{flatTree}
 use Rattle.definition.specs.Outcome.{Refusal, refusal, Outcome, openOutcome}
-use Rattle.definition.specs.Answers.{Answer, Buffers, padded, answer, numberAlone, verdict, messageAlone, openAnswers}
+use Rattle.definition.specs.Answers.{Answer, Buffers, padded, answer, numberAlone, verdict, messageAlone, withoutWork, openAnswers}
 use Rattle.definition.specs.Older.{resultAlone}
 use Rattle.buffer.specs.Buffer.{Message, messageIn as written}
 use Rattle.nodes.specs.Node.{spanOf}
@@ -89,6 +89,12 @@ pub message-alone : {r : code.Answer} {result work message : List ℕ} (m : ℕ)
 unfolding ended openAnswers
 message-alone m (Outcome.done u k) e = ap (λ (a : Answer). holding [] [] (a .message) a) e
 message-alone m (Outcome.refused r k) e = ap (λ (a : Answer). holding [] [] (a .message) a) e
+
+pub without-work : {A : Type 0} (tape : A → List ℕ) (n m : ℕ) {r : code.Answer} {result work message : List ℕ} (o : Outcome A)
+    → answerWith r result work message ≡ answer tape (withoutWork n m) o → answerWith r result [] message ≡ answer tape (withoutWork n m) o
+unfolding openAnswers
+without-work tape n m (Outcome.done a k) e = ap (λ (a : Answer). holding (a .result) [] (a .message) a) e
+without-work tape n m (Outcome.refused r k) e = ap (λ (a : Answer). holding (a .result) [] (a .message) a) e
 
 pub result-alone : {r : code.Answer} {result work message : List ℕ} (n number : ℕ)
     → answerWith r result work message ≡ ended (resultAlone n) (numberAlone number)

@@ -46,7 +46,7 @@ refused-tape {A} root {n = n} r s k e = go (answers r s) e
     go (answers-tape h p) e = absurd (let z : _≡_ {A = ℕ} 0 1 = cc in omega arith)
 
 -- one of two
-refused-tapes : {A B C : Type 0} (first : Root A) (second : Root B) {i j n : ℕ} → RootOf first i → RootOf second j → (s t : List ℕ)
+pub refused-tapes : {A B C : Type 0} (first : Root A) (second : Root B) {i j n : ℕ} → RootOf first i → RootOf second j → (s t : List ℕ)
     (k : A → B → Outcome C) → acceptTwo s i t j ≡ Refused n
     → reading (accept (weighted first) s) (λ x. reading (accept (weighted second) t) (k x)) ≡ numberAlone n
 unfolding acceptTwo reading
@@ -75,6 +75,12 @@ module _ (s t : List ℕ) (i j : ℕ) {d c : Layout} (e : acceptTwo s i t j ≡ 
   pub second-accepted : acceptOf t j ≡ opened.Tape c
   unfolding acceptTwo
   second-accepted = both-accepted (acceptOf s i) (acceptOf t j) e .1
+
+-- an accepted tape is read as its rewriting
+pub accepted-read : {A : Type 0} {root : Root A} → Rewrites root → Lawful root → (s : List ℕ) → Bytes s → {x : A}
+    → accept (weighted root) s ≡ Reading.accepted x → read root s ≡ Reading.accepted (rewritten root x)
+unfolding mapReading
+accepted-read {root = root} w law s bytes e = read-as root w law s bytes .one-scan ∙ ap (mapReading (rewritten root)) e
 
 -- what is read is the rewriting of what is accepted with the figures of the rewritten tape
 pub read-rewritten : {A B : Type 0} {root : Root A} → Rewrites root → Lawful root → (s : List ℕ) → Bytes s → (k : A → Outcome B)
@@ -143,7 +149,7 @@ module _ {A : Type 0} (tape : A → List ℕ) (b : Buffers) (o : Outcome A) {lon
   ends-refused n h q e = rw (h, q) e
 
   -- the message is not cut, since none is longer than the least buffer
-  ends-matched : long ≡ true → 2048 ≤ b .messageLength → operation tape b long o .messageLength ≤ 2048
+  pub ends-matched : long ≡ true → 2048 ≤ b .messageLength → operation tape b long o .messageLength ≤ 2048
       → (length (messageIn o) ≤ b .messageLength → a ≡ answer tape b o) → a ≡ operation tape b long o
   ends-matched h room short found =
       let e : operation tape b long o ≡ answer tape b o = rw h in

@@ -1,6 +1,5 @@
 -- The theorem first, then the laws that several proofs of the crate cite.
 pub mod Returned
-mod Lower
 mod Steps
 mod AsGiven
 mod Standing

@@ -27,11 +27,10 @@ use Rattle.answer.specs.Matches.{answerWith, buffers, ended, messageIn, Answers
 use Rattle.answer.specs.declared.Answer as code
 use Rattle.answer.specs.declared.Verdict.{Verdict}
 use Rattle.answer.specs.declared.Verdict.the-variants.{Passes, Refused}
-use Rattle.answer.proofs.Ends.{result-written}
-use Rattle.answer.proofs.Operations.{refused-tape, ends-short, ends-refused, message-refused, message-verdict}
+use Rattle.answer.proofs.Ends.{result-written, without-work}
+use Rattle.answer.proofs.Operations.{refused-tape, ends-short, ends-refused, ends-matched, message-refused, message-verdict}
 use Rattle.registry.proofs.Standing.{indexed-registry}
 use Rattle.check_library.specs.Rows.{checkedIn, Listing, listing, listedIn, ListMatches, AnswersList}
-use Rattle.check_library.proofs.Lower.{without-work, ends-matched}
 use Rattle.check_library.proofs.AsGiven.{libraryOf, library-as-given, checkOf, check-at-as-given}
 use Rattle.check_library.proofs.Standing.{checked-matches, list-matches}
 
@@ -45,13 +44,13 @@ module _ (s : List ℕ) (l : Layout) (list : List ℕ) (m : ℕ) {v : Verdict} {
 
   pub list-answered : {r : code.Answer} {none work message : List ℕ} → v ≡ Passes → answerWith r none work message ≡ ended (buffers 0 0 m) (Outcome.refused (refusal 0 0 []) 0)
       → AnswersList s l list m (answerWith r bytes [] message)
-  unfolding ListMatches
+  unfolding ListMatches ended answer
   list-answered {r} {message = message} p k o h short = go o (rw p at (made o h))
     where
       go : (o : Outcome (List Listed)) → ListMatches s l Passes bytes (length list) o
           → answerWith r bytes [] message ≡ answer listBytes (withoutWork (length list) m) o
       go (Outcome.done rows charged) q =
-          result-written listBytes (length list) 0 m rows 0 (q .1) (without-work 0 m (Outcome.refused (refusal 0 0 []) 0) k)
+          result-written listBytes (length list) 0 m rows 0 (q .1) (without-work (λ (u : Unit {0}). []) 0 m (Outcome.refused (refusal 0 0 []) 0) k)
           ∙ ap (λ (c : ℕ). answer listBytes (withoutWork (length list) m) (Outcome.done rows c)) (sym (q .0))
       go (Outcome.refused x charged) q = absurd q
 
@@ -67,7 +66,7 @@ module _ (s : List ℕ) (l : Layout) (list : List ℕ) (m : ℕ) {v : Verdict} {
       go (Outcome.refused x charged) q n =
           let there : answerWith r result work message ≡ ended (withoutWork (length list) m) (Outcome.refused x 0) =
           subst (λ (z : ℕ). answerWith r result work message ≡ ended (withoutWork z m) (Outcome.refused x 0)) kept (k x (q .1) n) in
-          without-work (length list) m (Outcome.refused x 0) there
+          without-work (λ (u : Unit {0}). []) (length list) m (Outcome.refused x 0) there
           ∙ ap (λ (c : ℕ). answer listBytes (withoutWork (length list) m) (Outcome.refused x c)) (sym (q .0))
 
 -- ------------------------------------------------------------------ the whole registry

@@ -37,12 +37,7 @@ outcome-counts s d t c (walk.Refused f k) bytes (Outcome.refused r n) counted gi
 -- ------------------------------------------------------------------ what is read
 
 module _ {A : Type 0} {root : Root A} (w : Rewrites root) (law : Lawful root) (s : List ℕ) (bytes : Bytes s) where
-  -- an accepted tape is read as its rewriting
-  pub accepted-read : {x : A} → accept (weighted root) s ≡ Reading.accepted x → read root s ≡ Reading.accepted (rewritten root x)
-  unfolding mapReading
-  accepted-read e = read-as root w law s bytes .one-scan ∙ ap (mapReading (rewritten root)) e
-
-  -- and of a tape that is refused nothing is made
+  -- of a tape that is refused nothing is made
   refused-unread : {B : Type 0} {sort n : ℕ} → RootOf root sort → acceptOf s sort ≡ opened.Refused n → (other : B) (k : A → B)
       → whenRead other (read root s) k ≡ other
   unfolding mapReading whenRead

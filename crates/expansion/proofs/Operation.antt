@@ -29,7 +29,7 @@ use Rattle.answer.specs.Matches.{buffers, ended, AnswersOutcome}
 use Rattle.expand_calls.specs.Output.{Progress, progress}
 use Rattle.answer.specs.Tapes.{acceptTwo}
 use Rattle.answer.specs.declared.tapes.Accepted.the-variants.{Both, Refused}
-use Rattle.answer.proofs.Operations.{first-accepted, second-accepted, long-enough, read-two, tree-short, tree-refused, tree-walked}
+use Rattle.answer.proofs.Operations.{accepted-read, first-accepted, second-accepted, long-enough, read-two, tree-short, tree-refused, tree-walked}
 use Rattle.registry.specs.Places.{indexAt}
 use Rattle.registry.proofs.Standing.{indexed-registry}
 use Rattle.definition.specs.Calls.{callsCondition}
@@ -38,7 +38,7 @@ use Rattle.expand_counts.specs.Counting.{countedIn}
 use Rattle.expand_counts.proofs.Adding.{Bounded}
 use Rattle.expand_counts.proofs.Counted.{counted-is}
 use Rattle.expansion.specs.Expansion.{EndsExpansion, afterWalk, namedIn}
-use Rattle.expansion.proofs.Counts.{outcome-counts, accepted-read, refused-unread-two, short-untaken, refused-untaken, taken}
+use Rattle.expansion.proofs.Counts.{outcome-counts, refused-unread-two, short-untaken, refused-untaken, taken}
 use Rattle.expansion.proofs.TreesWhole.{expansion-matches}
 
 -- the walk leaves the two buffers as long as they were

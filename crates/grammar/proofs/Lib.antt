@@ -1,5 +1,7 @@
 pub mod Table
 pub mod Cells
+mod Entries
 pub mod Marks
 pub mod Leaves
 pub mod ProviderMarks
+pub mod Counted

@@ -6,3 +6,4 @@ pub mod Provider
 pub mod Words
 pub mod Waits
 pub mod Stack
+pub mod Counts

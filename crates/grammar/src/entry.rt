@@ -1,6 +1,4 @@
 // What one entry does to a scan.
-use crate::codes::both;
-use crate::codes::either;
 use crate::codes::in_sort;
 use crate::codes::is_each;
 use crate::stack::drop_first;
@@ -8,12 +6,12 @@ use crate::stack::push;
 ghost use mathlib.Core.Path.{_≡_};
 ghost use mathlib.Core.Bool.{_&&_, _||_};
 ghost use mathlib.Core.List.{_++_};
-ghost use Prim.Native.Nat.{_+_, _≤_, _<_, min};
-ghost use lib.Dec.{ltb};
+ghost use Prim.Native.Nat.{_+_, _/_, _%_, _≤_, _<_, min};
+ghost use lib.Dec.{eqb, ltb};
 ghost use lib.ListN.{length, drop};
 ghost use Rattle.grammar.specs.Stack.{cellOf, Grown, stackOf, waitOf, waitsOf};
-ghost use Rattle.grammar.specs.Waits.{accepts, below, counted, exceeds, isLimited, passes};
-ghost use Rattle.grammar.specs.Words.{followsOf, isFew, longestOf, nestingOf, widthOf};
+ghost use Rattle.grammar.specs.Waits.{accepts, below, counted, exceeds, isLimited, passes, valued};
+ghost use Rattle.grammar.specs.Words.{callsOf, followsOf, isFew, longestOf, nestingOf, widthOf};
 
 // An entry's code and value and the length of its text, with what a table says of it at a place of a sort: the words of the sort and of
 // the code, and that of what follows.
@@ -44,17 +42,33 @@ fn count_of(follows: u64, value: u64) -> u64
     if is_each(follows) { value } else { 0 }
 }
 
-// Whether an entry may stand at its place, with `left` entries behind it and `room` bytes of text left.
+// Whether a value is one of the first `values` numbers, or may be any.
+fn is_valued(values: u64, value: u64) -> bool
+    ensures { λ r. ⌜ r ≡ valued values value ⌝ }
+{
+    if values == 0 {
+        return true;
+    }
+    value < values
+}
+
+// Whether an entry may stand at its place, with `left` entries behind it and `room` bytes of text left. Most entries bring nothing.
 pub fn accepts(left: usize, room: usize, e: Head) -> bool
     ensures { λ r. ⌜ r ≡ accepts left room e ⌝ }
 {
-    let value = e.value;
-    let text = e.text;
-    let values = e.row / 0x4000_0000 % 8;
-    let n = count_of(e.follows, value);
-    let held = both(n <= left as u64, text <= room as u64);
-    let valued = both(either(values == 0, value < values), held);
-    both(in_sort(e.sort, e.code), valued)
+    if !in_sort(e.sort, e.code) {
+        return false;
+    }
+    if !is_valued(e.row / 0x4000_0000 % 8, e.value) {
+        return false;
+    }
+    if (room as u64) < e.text {
+        return false;
+    }
+    if e.follows == 0 {
+        return true;
+    }
+    count_of(e.follows, e.value) <= left as u64
 }
 
 // The longest text: `longest` for a name.
@@ -92,7 +106,20 @@ fn too_many(e: Head) -> bool
     false
 }
 
-// Whether it passes a figure of an input, where `longest`, the longest text of a name, is not 0.
+// Whether a text is longer than an input's may be; `longest`, the longest of a name, is 0 where that is not asked.
+fn exceeds_text(longest: u64, e: Head) -> bool
+    ensures { λ r. ⌜ r ≡ (isLimited longest && ltb (longestOf longest (e .row)) (e .text)) ⌝ }
+{
+    if e.text == 0 {
+        return false;
+    }
+    if longest == 0 {
+        return false;
+    }
+    longest_of(longest, e.row) < e.text
+}
+
+// Whether it passes a figure of an input.
 fn exceeds_input(longest: u64, e: Head) -> bool
     ensures { λ r. ⌜ r ≡ (isLimited longest && (isFew (e .sort) && ltb 16 (e .value)) || isLimited longest && ltb (longestOf longest (e .row)) (e .text)) ⌝ }
 {
@@ -102,10 +129,17 @@ fn exceeds_input(longest: u64, e: Head) -> bool
     if too_many(e) {
         return true;
     }
-    if e.text == 0 {
-        return false;
+    exceeds_text(longest, e)
+}
+
+// Whether an entry is neither a call nor a short list's.
+fn is_usual(e: Head) -> bool
+    ensures { λ r. ⌜ r ≡ (eqb (callsOf (e .row)) 0 && eqb (e .sort / 0x4000000000000000 % 2) 0) ⌝ }
+{
+    if e.row / 0x40_0000_0000 % 2 == 0 {
+        return e.sort / 0x4000_0000_0000_0000 % 2 == 0;
     }
-    longest_of(longest, e.row) < e.text
+    false
 }
 
 // How much an entry counts in nesting. `longest` is as in `exceeds`.
@@ -128,6 +162,9 @@ pub fn exceeds(longest: u64, w: u64, e: Head) -> bool
     let nesting = nesting_of(longest, row);
     if passes(64, w / 0x200_0000_0000 % 128, nesting) {
         return true;
+    }
+    if is_usual(e) {
+        return exceeds_text(longest, e);
     }
     if passes(4, w / 0x1_0000_0000_0000 % 8, row / 0x40_0000_0000 % 2) {
         return true;

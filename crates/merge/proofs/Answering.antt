@@ -15,12 +15,11 @@ use Rattle.messages.specs.declared.Refused.{Refused}
 use Rattle.de_morgan.specs.Rewritten.{rewrittenIn, rewrittenLayout}
 use Rattle.answer.specs.Matches.{answerWith, buffers, ended, AnswersRefusal}
 use Rattle.answer.specs.declared.Answer as code
-use Rattle.answer.proofs.Ends.{result-written}
+use Rattle.answer.proofs.Ends.{result-written, without-work}
 use Rattle.merge.specs.Join.{merging, mergeIn}
 use Rattle.merge.specs.Ends.{MergingMatches, AnswersMerging, EndsMerge}
 use Rattle.merge.specs.declared.join.Merging.{Merging}
 use Rattle.merge.specs.declared.join.Merging.the-variants.{Written, First, Second}
-use Rattle.merge.proofs.Lower.{without-work}
 
 module _ (s : List ℕ) (d : Layout) (t : List ℕ) (e : Layout) (bytes : List ℕ) {m : Merging} {r : code.Answer} {result work message : List ℕ} where
   pub written-answered : {none : List ℕ} {out : Writer} (before : List ℕ) (k : ℕ) → m ≡ Written out → result ≡ finishedIn (areaIn out bytes) before

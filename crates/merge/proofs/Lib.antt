@@ -2,6 +2,5 @@
 mod Steps
 mod Agreeing
 mod Joining
-mod Lower
 mod Answering
 mod Operation

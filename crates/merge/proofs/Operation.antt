@@ -39,7 +39,7 @@ use Rattle.answer.specs.Tapes.{acceptTwo}
 use Rattle.answer.specs.declared.Verdict.{Verdict}
 use Rattle.answer.specs.declared.Verdict.the-variants.{Passes, Refused as Refuse}
 use Rattle.answer.specs.declared.tapes.Accepted.the-variants.{Both, Refused}
-use Rattle.answer.proofs.Operations.{first-accepted, second-accepted, read-two, ends-short, ends-refused}
+use Rattle.answer.proofs.Operations.{refused-tapes, accepted-read, first-accepted, second-accepted, read-two, ends-short, ends-refused}
 use Rattle.registry.specs.Places.{indexAt, buildAt}
 use Rattle.registry.proofs.Standing.{indexed-registry, ended-registry}
 use Rattle.registry.proofs.Verdicts.{build-matches}
@@ -47,7 +47,6 @@ use Rattle.merge.specs.Join.{MergingIn, afterNames, mergedOf, mergedIn, 
 use Rattle.merge.specs.Ends.{MergingMatches, EndsMerge}
 use Rattle.merge.specs.declared.join.Merging.the-variants.{Written, First}
 use Rattle.merge.proofs.Joining.{JoinsTo, joins, differs, joined-is}
-use Rattle.merge.proofs.Lower.{refused-tapes, accepted-read}
 
 -- ------------------------------------------------------------------ the definition's outcome
 

@@ -9,7 +9,9 @@ use tape::layout::code_at;
 use tape::layout::value_at;
 use tape::scan::Skipped;
 ghost use mathlib.Core.Path.{_≡_};
+ghost use Prim.Native.Nat.{_+_, _≤_, _<_};
 ghost use Rattle.definition.specs.Text.{eqText};
+ghost use Rattle.tape.specs.Layouts.{onward};
 ghost use Rattle.nodes.specs.Node.{spanOf, refusalOf, malformed, hasEntry, hasText, entryAt, expectAt, pastTextsAt, pastHeadingAt, pastTypeAt, conditionAt, predicateAt, comparisonAt, refineAt, sigilAt, named, termAt, pathAt, aggAt, slotAt, withinAt, headingAt, argumentAt, paramAt, pastParamsAt, bodyAt, nameAt};
 
 pub struct Span {
@@ -214,6 +216,17 @@ fn has_text(len: usize, l: Layout, p: Place, size: u64) -> bool
     size <= (room - p.text) as u64
 }
 
+// The place behind an entry with this much text.
+fn onward(p: Place, size: u64) -> Place
+    requires { ⌜ (p .at < 0xFFFFFFFFFFFFFFFF) × (p .text + size ≤ 0xFFFFFFFFFFFFFFFF) ⌝ }
+    ensures { λ r. ⌜ r ≡ onward p size ⌝ }
+{
+    Place {
+        at: p.at + 1,
+        text: p.text + size as usize,
+    }
+}
+
 // The entry at a place, with the next place, if the slice holds its code, its value and its text.
 pub fn entry(s: &[u8], l: Layout, p: Place) -> EntryRead
     ensures { λ r. ⌜ r ≡ entryAt (now (s .entry)) l p ⌝ }
@@ -228,25 +241,26 @@ pub fn entry(s: &[u8], l: Layout, p: Place) -> EntryRead
     if !has_text(s.len(), l, p, size) {
         return EntryRead::End;
     }
-    let next = Place {
-        at: at + 1,
-        text: p.text + size as usize,
-    };
-    EntryRead::Entry(code, value, next)
+    EntryRead::Entry(code, value, onward(p, size))
 }
 
-// The entry at a place, if it has this code.
+// The entry at a place, if it has this code. The code is looked at first, since a caller's is known and so is whether it has text.
 pub fn expect(s: &[u8], l: Layout, p: Place, code: u8) -> ValueRead
     ensures { λ r. ⌜ r ≡ expectAt (now (s .entry)) l p code ⌝ }
 {
-    let EntryRead::Entry(found, value, next) = entry(s, l, p) else {
+    let at = p.at;
+    if !has_entry(s.len(), l, at) {
         return ValueRead::Nothing;
-    };
-    if found == code {
-        ValueRead::Value(value, next)
-    } else {
-        ValueRead::Nothing
     }
+    if code_at(s, l, at) != code {
+        return ValueRead::Nothing;
+    }
+    let value = value_at(s, l, at);
+    let size = text_width(code, value);
+    if !has_text(s.len(), l, p, size) {
+        return ValueRead::Nothing;
+    }
+    ValueRead::Value(value, onward(p, size))
 }
 
 // The place behind `count` texts.

@@ -1,7 +1,7 @@
--- Ors counted code by code.
+-- Codes counted one by one, and the Ors among them.
 -- Assumes nothing.
 use Prim.Native.Nat.{ℕ, zero, suc, _+_, _-_, _≤_, _<_}
-use mathlib.Core.Path.{_≡_, refl}
+use mathlib.Core.Path.{_≡_, refl, ap, sym, _∙_}
 use mathlib.Core.List.{List, [], _∷_}
 use mathlib.Core.Bool.{Bool, true, false}
 use native.Mathlib.Omega.{arith}
@@ -13,20 +13,36 @@ use Rattle.format.specs.Entry.{Entry, entry}
 use Rattle.format.specs.Limits.{weigh}
 use Rattle.format.specs.Stands.{part}
 use Rattle.format.proofs.Stands.{part-cons}
+use Rattle.tape.specs.Flat.{sumOf, weightOf}
 use Rattle.tape.specs.Layouts.{codeAt, holds, widthBy, entriesAt}
 use Rattle.tape.specs.Pick.{pick}
 use Rattle.tape.specs.declared.layout.Layout.{Layout}
 use Rattle.format.specs.Macro.{tally}
 use Rattle.tape.specs.Ors.{coded, orsFrom, orsIn}
 
+-- a figure summed up from a code on
+module _ (f : ℕ → ℕ) (codes : List ℕ) (i : ℕ) where
+  pub sum-step : i < length codes → sumOf f (drop i codes) ≡ f (getD codes i 0) + sumOf f (drop (i + 1) codes)
+  sum-step h = rw (drop-cons codes i 0 h, add-one) refl
+
+  pub sum-end : length codes ≤ i → sumOf f (drop i codes) ≡ 0
+  sum-end h = rw (drop-of-length-le codes h) refl
+
+-- a code among entries
+pub tally-sum : (code : ℕ) (codes : List ℕ) → tally code (coded codes) ≡ sumOf (weightOf code) codes
+unfolding tally
+tally-sum code [] = refl
+tally-sum code (c ∷ cs) = omega (arith, tally-sum code cs)
+
+-- Ors from a code on
 module _ (codes : List ℕ) (i : ℕ) where
   pub count-step : i < length codes → tally 2 (coded (drop i codes)) ≡ weigh (eqb (getD codes i 0) 2) + tally 2 (coded (drop (i + 1) codes))
-  unfolding tally
-  count-step h = rw (drop-cons codes i 0 h, add-one) refl
+  count-step h =
+      tally-sum 2 (drop i codes) ∙ sum-step (weightOf 2) codes i h
+      ∙ ap (λ (n : ℕ). weightOf 2 (getD codes i 0) + n) (sym (tally-sum 2 (drop (i + 1) codes)))
 
   pub count-end : length codes ≤ i → tally 2 (coded (drop i codes)) ≡ 0
-  unfolding tally
-  count-end h = rw (drop-of-length-le codes h) refl
+  count-end h = tally-sum 2 (drop i codes) ∙ sum-end (weightOf 2) codes i h
 
 -- the Ors from an entry on
 module _ (s : List ℕ) (l : Layout) where

@@ -9,6 +9,7 @@ pub mod Trees
 mod Found
 mod SmallTrees
 mod Shapes
+mod Skipping
 mod Typed
 mod Places
 pub mod Acceptance

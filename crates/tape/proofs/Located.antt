@@ -26,7 +26,7 @@ use Rattle.tape.specs.declared.scan.Skipped.the-variants.{At}
 use Rattle.tape.proofs.Acceptance.{RootNamed}
 use Rattle.tape.proofs.Passing.{Passes}
 use Rattle.tape.proofs.Roots.{Accepted}
-use Rattle.tape.proofs.Runs.{place, Run, run-front, run-back, skip-run, size-run}
+use Rattle.tape.proofs.Runs.{place, Run, run-front, run-back, count-run, size-run}
 
 -- ------------------------------------------------------------------ the place behind entries
 
@@ -123,7 +123,7 @@ module _ {s : List ℕ} {l : Layout} {p : Place} {es : List Entry} (i : Inside s
 
   -- to skip a tree is to come to the place behind it
   pub inside-skip : {sort : ℕ} {d : (ℕ → ℕ) → ℕ} {x : Bool} → Passes (sort ∷ []) es d x → sort < 32 → skipAt s l p sort ≡ At (past es p)
-  inside-skip b h = skip-run b h (i .run) ∙ ap At (sym (past-place es p))
+  inside-skip b h = count-run b h (i .run) ∙ ap At (sym (past-place es p))
 
   pub inside-size : sizeBetween s l (p .at) (past es p .at) ≡ size es
   inside-size = ap (sizeBetween s l (p .at)) (past-at es p) ∙ size-run (i .run)

@@ -1,8 +1,9 @@
 -- Parts of a list that reach past its end, and parts taken one element at a time.
 -- Assumes nothing.
-use Prim.Native.Nat.{ℕ, suc, _+_, _-_, _≤_, _<_}
+use Prim.Native.Nat.{ℕ, suc, _+_, _-_, _≤_, _<_, min}
 use mathlib.Core.Path.{_≡_, ap, sym, _∙_}
 use mathlib.Core.List.{List, []}
+use native.Mathlib.Decide.{decLt}
 use native.Mathlib.Omega.{arith}
 use lib.ListN.{length, take, drop, length-drop, drop-of-length-le}
 use lib.Seq.{take-all, take-nil}
@@ -15,6 +16,14 @@ use Rattle.tape.specs.declared.layout.Layout.{Layout}
 
 pub part-past : (s : List ℕ) (i n : ℕ) → length s ≤ i → part s i n ≡ []
 part-past s i n h = ap (take n) (drop-of-length-le s {i = i} h) ∙ take-nil n
+
+-- an index that is cut to one past the list is as good
+pub part-capped : (s : List ℕ) (i n most : ℕ) → length s ≤ most → part s (min i most) n ≡ part s i n
+part-capped s i n most h = go (decLt most i)
+  where
+    go : Dec (most < i) → part s (min i most) n ≡ part s i n
+    go (yes g) = part-past s (min i most) n (omega arith) ∙ sym (part-past s i n (omega arith))
+    go (no g) = let e : min i most ≡ i = omega arith in ap (λ (k : ℕ). part s k n) e
 
 -- what is left of the list is all that a longer part can have
 pub part-rest : (s : List ℕ) (i n : ℕ) → length s - i ≤ n → part s i n ≡ part s i (length s - i)

@@ -2,7 +2,7 @@
 -- pass a largest figure.
 -- Assumes nothing.
 use Prim.Native.Nat.{ℕ, _+_, _-_, _≤_, _<_}
-use mathlib.Core.Path.{_≡_, refl, ap, _∙_}
+use mathlib.Core.Path.{_≡_, refl, ap, subst, _∙_}
 use mathlib.Core.Bool.{Bool, true, false, not, _&&_}
 use mathlib.Core.List.{List, [], _∷_, _++_, map}
 use native.Mathlib.Omega.{arith}
@@ -17,15 +17,23 @@ use Rattle.format.proofs.Accepted.{length-codes, Values64}
 use Rattle.format.proofs.All.{all-left, all-right, all-head}
 use Rattle.format.proofs.Stands.{text-append, stands-front, stands-back, stands-code, stands-value}
 use Rattle.tape.specs.Layouts.{layout, areaLayout, Held, holds, codeAt, valueAt, entriesAt, sizeBetween}
-use Rattle.grammar.proofs.Marks.{Table}
-use Rattle.tape.specs.Scan.{scanOf, starts, scanAt, behind, skipIn, overOf, tooDeepIn}
+use Rattle.grammar.specs.Counts.{dueOf, hasPairs, countWords}
+use Rattle.grammar.specs.Waits.{wait}
+use Rattle.grammar.specs.Words.{temporalWords}
+use Rattle.grammar.proofs.Counted.{start-counts}
+use Rattle.grammar.proofs.Marks.{Table, temporal}
+use Rattle.tape.specs.Pick.{pick}
+use Rattle.tape.specs.Scan.{scanOf, scanFrom, starts, scanAt, behind, skipIn, skipAt, overOf, tooDeepIn}
+use Rattle.tape.specs.Skip.{countFrom}
 use Rattle.tape.specs.declared.layout.Layout.{Layout}
 use Rattle.tape.specs.declared.layout.Place.{Place}
-use Rattle.tape.specs.declared.scan.Scanned.the-variants.{Ends}
-use Rattle.tape.specs.declared.scan.Skipped.the-variants.{At}
+use Rattle.tape.specs.declared.scan.Scanned.{Scanned}
+use Rattle.tape.specs.declared.scan.Scanned.the-variants.{Ends, Malformed}
+use Rattle.tape.specs.declared.scan.Skipped.the-variants.{At, Nowhere}
 use Rattle.tape.proofs.Holding.{holding, starting}
 use Rattle.tape.proofs.Passing.{PassesBy, any-pass, reported}
 use Rattle.tape.proofs.Places.{entries-stand}
+use Rattle.tape.proofs.Skipping.{EndsAt, counted-ends}
 use Rattle.format.proofs.Tests.{and-left, and-right, and-both, is-true}
 
 -- the place n entries and t text bytes further on
@@ -80,6 +88,10 @@ module _ {s : List ℕ} {l : Layout} {p : Place} where
 
 -- ------------------------------------------------------------------ the scan of a run
 
+abbrev kind : Scanned → ℕ
+kind Malformed = 0
+kind (Ends p over) = 1
+
 module _ {t : Table} {s : List ℕ} {l : Layout} {p : Place} {es : List Entry} {sort : ℕ} {d : (ℕ → ℕ) → ℕ} {x : Bool} where
   scan-run : (b : PassesBy t (sort ∷ []) es d x) → sort < 32 → Run s l p es
       → scanAt (t .words) s l p sort 0 ≡ Ends (place (p .at + length es) (p .text + length (textOf es))) (b .over 0 0 0)
@@ -105,6 +117,27 @@ module _ {t : Table} {s : List ℕ} {l : Layout} {p : Place} {es : List Entry} {
   pub skip-run : PassesBy t (sort ∷ []) es d x → sort < 32 → Run s l p es
       → skipIn (t .words) s l p sort ≡ At (place (p .at + length es) (p .text + length (textOf es)))
   skip-run b h r = ap behind (scan-run b h r)
+
+-- the same by counting, for a tree of document 01
+pub count-run : {s : List ℕ} {l : Layout} {p : Place} {es : List Entry} {sort : ℕ} {d : (ℕ → ℕ) → ℕ} {x : Bool}
+    → PassesBy temporal (sort ∷ []) es d x → sort < 32 → Run s l p es
+    → skipAt s l p sort ≡ At (place (p .at + length es) (p .text + length (textOf es)))
+count-run {s} {l} {p} {es} {sort} b h r =
+    let n = l .entries - p .at in
+    let ends = counted-ends s l n (wait sort 0 0 ∷ []) (p .at) (p .text) false (start-counts sort h) in
+    go (starts s l p sort) (scan-run b h r) ends
+  where
+    end : Place
+    end = place (p .at + length es) (p .text + length (textOf es))
+
+    go : (y : Bool) {o : Bool} → pick y (scanFrom temporalWords s l p sort 0) Malformed ≡ Ends end o
+        → EndsAt (scanFrom temporalWords s l p sort 0) (countFrom countWords s l (l .entries - p .at) (dueOf sort) (hasPairs sort) (p .at) (p .text))
+        → pick y (countFrom countWords s l (l .entries - p .at) (dueOf sort) (hasPairs sort) (p .at) (p .text)) Nowhere ≡ At end
+    go true e c = subst (λ (z : Scanned). EndsAt z (countFrom countWords s l (l .entries - p .at) (dueOf sort) (hasPairs sort) (p .at) (p .text))) e c
+    go false e c = absurd (ended e)
+      where
+        ended : {o : Bool} → Malformed ≡ Ends end o → ⊥
+        ended e = let z : _≡_ {A = ℕ} 0 1 = ap kind e in omega arith
 
 -- a tree at the start of a layout is too deep if it passes the limits on depths
 pub deep-run : {t : Table} {s : List ℕ} {l : Layout} {es : List Entry} {sort : ℕ} {d : (ℕ → ℕ) → ℕ} → PassesBy t (sort ∷ []) es d true

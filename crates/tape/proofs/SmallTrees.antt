@@ -5,23 +5,27 @@ use mathlib.Core.Path.{_≡_, refl, ap, subst, _∙_}
 use mathlib.Core.Bool.{Bool, true, false, _&&_}
 use mathlib.Core.List.{List, [], _∷_, _++_}
 use mathlib.Core.Logic.{_⊎_, ⊎-elim, inl, inr}
+use native.Mathlib.Nat.{add-zero}
 use native.Mathlib.Omega.{arith}
-use borrow.Author.Tests.{le-ltb}
-use lib.Dec.{T, ltb, leb→le, ltb→lt}
-use lib.ListN.{length}
+use borrow.Author.Tests.{le-ltb, lt-ltb, le-leb, lt-leb}
+use lib.Dec.{T, leb, ltb, eqb, leb→le, ltb→lt, eqb→eq}
+use lib.ListN.{length, drop, length-take}
 use Rattle.format.specs.Entry.{Entry}
+use Rattle.format.specs.Limits.{isCall, weigh}
 use Rattle.format.specs.Stands.{part}
 use Rattle.format.proofs.All.{All, all-nil, all-cons, all-append, all-map}
 use Rattle.format.proofs.Stands.{part-cons}
-use Rattle.format.proofs.Tests.{and-left, and-right, from-true, is-true}
+use Rattle.format.proofs.Tests.{and-left, and-right, from-true, is-true, is-false}
 use Rattle.grammar.specs.Grammar.{sortsOf, text}
-use Rattle.grammar.specs.Words.{temporalWords, sortAt, inSort, nestingOf, innerOf, callsOf, followsIn, followsOf}
+use Rattle.grammar.specs.Words.{temporalWords, sortAt, rowAt, inSort, nestingOf, innerOf, callsOf, followsIn, followsOf}
 use Rattle.grammar.specs.Waits.{Wait, wait, waits, headOf, accepts, deeper, enclosed, exceeds, below}
 use Rattle.grammar.specs.declared.entry.Head.{Head}
 use Rattle.grammar.proofs.Cells.{follow-none}
 use Rattle.grammar.proofs.Leaves.{Texts, leaf, bare-text}
-use Rattle.tape.specs.Flat.{sumOf, sumFrom, innerIn, callsIn, isSmall, isFlat}
-use Rattle.tape.specs.Layouts.{Held, codeAt, widthBy, entriesAt, holds}
+use Rattle.grammar.proofs.Marks.{past-row, everywhere, call-marks}
+use Rattle.grammar.proofs.Table.{at as at-code}
+use Rattle.tape.specs.Flat.{sumOf, sumIn, weightOf, isInner, innerWeight, isSmall, isFlat}
+use Rattle.tape.specs.Layouts.{Held, widthBy, entriesAt, holds}
 use Rattle.tape.specs.Pick.{pick}
 use Rattle.tape.specs.Scan.{scanOf, scanFrom, starts, textPasses, overOf, tooDeep}
 use Rattle.tape.specs.declared.layout.Layout.{Layout}
@@ -30,19 +34,30 @@ use Rattle.tape.proofs.Holding.{held}
 
 -- ------------------------------------------------------------------ sums over codes
 
--- the first code, and the others
-pub sum-step : (f : ℕ → ℕ) (s : List ℕ) (l : Layout) (i : ℕ) → i < l .entries → l .codes + l .entries ≤ length s
-    → sumFrom f s l i ≡ f (codeAt s l i) + sumFrom f s l (i + 1)
-sum-step f s l i h₁ h₂ =
-    let n : l .entries - i ≡ suc (l .entries - (i + 1)) = omega arith in
-    let e : l .codes + i + 1 ≡ l .codes + (i + 1) = omega arith in
-    rw (n, part-cons s (l .codes + i) (l .entries - (i + 1)) (omega arith), e)
+sum-same : {f g : ℕ → ℕ} → ((c : ℕ) → f c ≡ g c) → (cs : List ℕ) → sumOf f cs ≡ sumOf g cs
+sum-same h [] = refl
+sum-same h (c ∷ cs) = omega (arith, h c, sum-same h cs)
 
--- none are left
-pub sum-end : (f : ℕ → ℕ) (s : List ℕ) (l : Layout) (i : ℕ) → l .entries ≤ i → sumFrom f s l i ≡ 0
-sum-end f s l i h =
-    let n : l .entries - i ≡ 0 = omega arith in
-    rw n
+abbrev innerIn : ℕ → ℕ
+innerIn c = innerOf (rowAt temporalWords c)
+
+abbrev callsIn : ℕ → ℕ
+callsIn c = callsOf (rowAt temporalWords c)
+
+-- the marks of the table are the codes
+inner-marks : (c : ℕ) → innerIn c ≡ innerWeight c
+unfolding temporalWords weigh
+inner-marks =
+    everywhere
+    (λ c h. eqb→eq _ _ (at-code (λ (k : ℕ). eqb (innerIn k) (innerWeight k)) 0 77 tt c (omega arith) h))
+    (λ c h. rw (past-row c h, outside c 1 13 (omega arith), outside c 29 31 (omega arith), outside c 34 36 (omega arith)))
+  where
+    outside : (c low high : ℕ) → high < c → (leb low c && leb c high) ≡ false
+    outside c low high g = is-false (λ t. let k = leb→le c high (and-right (leb low c) _ t) in omega arith)
+
+calls-marks : (c : ℕ) → callsIn c ≡ weightOf 54 c
+unfolding isCall
+calls-marks c = call-marks c
 
 abbrev codesOf : List Entry → List ℕ
 codesOf [] = []
@@ -126,10 +141,10 @@ module _ (w : Wait) (code value : ℕ) where
             }
 
 abbrev nodesIn : List Entry → ℕ
-nodesIn es = sumOf (innerIn temporalWords) (codesOf es)
+nodesIn es = sumOf innerIn (codesOf es)
 
 abbrev callsAmong : List Entry → ℕ
-callsAmong es = sumOf (callsIn temporalWords) (codesOf es)
+callsAmong es = sumOf callsIn (codesOf es)
 
 flat-scan : (size : ℕ) (es : List Entry) (st : List Wait) (at text : ℕ) → All (Low (nodesIn es) (callsAmong es)) st
     → overOf (scanOf temporalWords 0 size es st at text false) ≡ false
@@ -160,7 +175,7 @@ flat-scan size (e ∷ es) (w ∷ st) at text (all-cons p h) =
 
 -- ------------------------------------------------------------------ the tree at the start of a layout
 
-pub flat-shallow : (s : List ℕ) (l : Layout) (sort : ℕ) → isFlat temporalWords s l ≡ true → tooDeep s l sort ≡ false
+pub flat-shallow : (s : List ℕ) (l : Layout) (sort : ℕ) → isFlat s l ≡ true → tooDeep s l sort ≡ false
 flat-shallow s l sort flat = go (starts s l (record { at = 0; text = 0 }) sort)
   where
     h : Held s l
@@ -169,23 +184,52 @@ flat-shallow s l sort flat = go (starts s l (record { at = 0; text = 0 }) sort)
     es : List Entry
     es = entriesAt temporalWords s l 0 0 (l .entries - 0)
 
-    same : (f : ℕ → ℕ) → sumOf f (codesOf es) ≡ sumFrom f s l 0
-    same f = ap (sumOf f) (codes-are temporalWords s l (l .entries - 0) 0 0 (omega (arith, h .codes-held)))
+    codes-there : codesOf es ≡ part s (l .codes) (l .entries)
+    codes-there =
+        let n : l .entries - 0 ≡ l .entries = omega arith in
+        codes-are temporalWords s l (l .entries - 0) 0 0 (omega (arith, h .codes-held)) ∙ rw (n, add-zero (l .codes)) refl
 
-    small : T (isSmall temporalWords s l)
+    small : T (isSmall s l)
     small = and-right (holds s l) _ (from-true flat)
 
     few : Low (nodesIn es) (callsAmong es) (wait sort 0 0)
     few =
-        let a = ltb (sumFrom (innerIn temporalWords) s l 0) 64 in
-        let n = ltb→lt (sumFrom (innerIn temporalWords) s l 0) 64 (and-left a _ small) in
-        let k = leb→le (sumFrom (callsIn temporalWords) s l 0) 4 (and-right a _ small) in
+        let a = leb (sumIn (weightOf 54) s l) 4 in
+        let k = leb→le (sumIn (weightOf 54) s l) 4 (and-left a _ small) in
+        let n = ltb→lt (sumIn innerWeight s l) 64 (and-right a _ small) in
+        let calls : callsAmong es ≡ sumIn (weightOf 54) s l = sum-same calls-marks (codesOf es) ∙ ap (sumOf (weightOf 54)) codes-there in
+        let nodes : nodesIn es ≡ sumIn innerWeight s l = sum-same inner-marks (codesOf es) ∙ ap (sumOf innerWeight) codes-there in
         record {
-          calls-low = omega (arith, same (callsIn temporalWords), k);
-          nesting-low = omega (arith, same (innerIn temporalWords), n);
-          one-more = inl (omega (arith, same (innerIn temporalWords), n));
+          calls-low = omega (arith, calls, k);
+          nesting-low = omega (arith, nodes, n);
+          one-more = inl (omega (arith, nodes, n));
         }
 
     go : (b : Bool) → overOf (pick b (scanFrom temporalWords s l (record { at = 0; text = 0 }) sort 0) Malformed) ≡ false
     go false = refl
     go true = flat-scan (l .size) es (wait sort 0 0 ∷ []) 0 0 (all-cons few all-nil)
+
+-- ------------------------------------------------------------------ what decides that a tree is small
+
+inner-most : (cs : List ℕ) → sumOf innerWeight cs ≤ length cs
+unfolding weigh
+inner-most [] = omega arith
+inner-most (c ∷ cs) = go (isInner c) (inner-most cs)
+  where
+    go : (b : Bool) → sumOf innerWeight cs ≤ length cs → weigh b + sumOf innerWeight cs ≤ suc (length cs)
+    go true h = omega arith
+    go false h = omega arith
+
+module _ (s : List ℕ) (l : Layout) where
+  pub many-calls : 4 < sumIn (weightOf 54) s l → false ≡ isSmall s l
+  many-calls h = rw (lt-leb (sumIn (weightOf 54) s l) 4 h)
+
+  module _ (h : sumIn (weightOf 54) s l ≤ 4) where
+    pub few-entries : l .entries < 64 → true ≡ isSmall s l
+    few-entries n =
+        let k = inner-most (part s (l .codes) (l .entries)) in
+        let m = length-take (l .entries) (drop (l .codes) s) in
+        rw (le-leb (sumIn (weightOf 54) s l) 4 h, lt-ltb (sumIn innerWeight s l) 64 (omega arith))
+
+    pub inner-counted : {n : ℕ} → n ≡ sumIn innerWeight s l → ltb n 64 ≡ isSmall s l
+    inner-counted q = rw (le-leb (sumIn (weightOf 54) s l) 4 h, q)

@@ -8,10 +8,12 @@ use lib.ListN.{length}
 use lib.Dec.{leb, ltb, eqb}
 use Rattle.format.specs.Entry.{Text, Entry}
 use Rattle.format.specs.Utf8.{wellFormed}
+use Rattle.grammar.specs.Counts.{dueOf, hasPairs, countWords}
 use Rattle.grammar.specs.Pick.{pick}
 use Rattle.grammar.specs.Waits.{Wait, wait, headOf, accepts, exceeds, below}
 use Rattle.grammar.specs.Words.{temporalWords}
 use Rattle.tape.specs.Layouts.{holds, entriesAt}
+use Rattle.tape.specs.Skip.{countFrom}
 use Rattle.tape.specs.declared.layout.Layout.{Layout}
 use Rattle.tape.specs.declared.layout.Place.{Place}
 use Rattle.tape.specs.declared.scan.Scanned.{Scanned}
@@ -64,9 +66,12 @@ overOf Malformed = false
 abbrev pub tooDeepIn : List ℕ → List ℕ → Layout → ℕ → Bool
 tooDeepIn g s l sort = overOf (scanAt g s l (record { at = 0; text = 0 }) sort 0)
 
--- the same with the table of document 01
+-- the place behind a subtree of document 01, by counting: where the scan ends, but what stands there is not looked at
 abbrev pub skipAt : List ℕ → Layout → Place → ℕ → Skipped
-skipAt s l from sort = skipIn temporalWords s l from sort
+skipAt s l from sort =
+    pick (starts s l from sort)
+    (countFrom countWords s l (l .entries - from .at) (dueOf sort) (hasPairs sort) (from .at) (from .text)) Nowhere
 
+-- the same with the table of document 01
 abbrev pub tooDeep : List ℕ → Layout → ℕ → Bool
 tooDeep s l sort = tooDeepIn temporalWords s l sort

@@ -1,35 +1,56 @@
 // Trees so small that they cannot be too deep.
 use crate::layout::Layout;
-use crate::layout::code_at;
 use crate::layout::holds;
+use crate::ors::count_in;
 use grammar::codes::both;
-use grammar::codes::word_at;
+use grammar::codes::either;
 ghost use mathlib.Core.Path.{_≡_};
-ghost use Rattle.tape.specs.Flat.{isFlat, isSmall};
+ghost use Prim.Native.Nat.{_≤_};
+ghost use lib.ListN.{length};
+ghost use Rattle.tape.specs.Flat.{innerWeight, isFlat, isInner, isSmall, sumOf};
 ghost use Rattle.tape.specs.Layouts.{Held};
 
 // Whether a slice holds a layout with fewer than 64 nodes that may have others in them, and with at most four calls.
-pub fn is_flat(grammar: &[u64], s: &[u8], l: Layout) -> bool
-    ensures { λ r. ⌜ r ≡ isFlat (now (grammar .entry)) (now (s .entry)) l ⌝ }
+pub fn is_flat(s: &[u8], l: Layout) -> bool
+    ensures { λ r. ⌜ r ≡ isFlat (now (s .entry)) l ⌝ }
 {
-    if holds(s, l) {
-        is_small(grammar, s, l)
-    } else {
-        false
-    }
+    if holds(s, l) { is_small(s, l) } else { false }
 }
 
-fn is_small(grammar: &[u64], s: &[u8], l: Layout) -> bool
+// Fewer than 64 entries are not so many nodes, whatever they are.
+fn is_small(s: &[u8], l: Layout) -> bool
     requires { ⌜ Held (now s) l ⌝ }
-    ensures { λ r. ⌜ r ≡ isSmall (now (grammar .entry)) (now (s .entry)) l ⌝ }
+    ensures { λ r. ⌜ r ≡ isSmall (now (s .entry)) l ⌝ }
 {
-    let entries = l.entries;
-    let mut nodes: u64 = 0;
-    let mut calls: u64 = 0;
-    for i in 0..entries {
-        let row = word_at(grammar, 32 + code_at(s, l, i) as usize);
-        nodes += row / 0x80_0000_0000 % 2;
-        calls += row / 0x40_0000_0000 % 2;
+    let start = l.codes;
+    let end = start + l.entries;
+    if 4 < count_in(&s[start..end], 54) {
+        return false;
     }
-    both(nodes < 64, calls <= 4)
+    if l.entries < 64 {
+        return true;
+    }
+    inner_in(&s[start..end]) < 64
+}
+
+// Whether a node of this code may have others in it.
+fn is_inner(code: u8) -> bool
+    ensures { λ r. ⌜ r ≡ isInner code ⌝ }
+{
+    let term = either(both(29 <= code, code <= 31), both(34 <= code, code <= 36));
+    either(both(1 <= code, code <= 13), term)
+}
+
+// How many codes are such.
+fn inner_in(codes: &[u8]) -> usize
+    requires { ⌜ length (now codes) ≤ 1024 ⌝ }
+    ensures { λ r. ⌜ r ≡ sumOf innerWeight (now (codes .entry)) ⌝ }
+{
+    let mut n: u16 = 0;
+    for i in 0..codes.len() {
+        if is_inner(codes[i]) {
+            n += 1;
+        }
+    }
+    n as usize
 }

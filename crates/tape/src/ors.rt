@@ -2,22 +2,25 @@
 use crate::layout::Layout;
 use crate::layout::holds;
 ghost use mathlib.Core.Path.{_≡_};
+ghost use Prim.Native.Nat.{_≤_};
 ghost use lib.Dec.{leb};
-ghost use Rattle.format.specs.Macro.{tally};
+ghost use lib.ListN.{length};
+ghost use Rattle.tape.specs.Flat.{sumOf, weightOf};
 ghost use Rattle.tape.specs.Layouts.{Held};
-ghost use Rattle.tape.specs.Ors.{coded, orsFrom, orsIn, rewrittenCount};
+ghost use Rattle.tape.specs.Ors.{orsFrom, orsIn, rewrittenCount};
 
-// How many codes are a 2.
-fn count_in(codes: &[u8]) -> usize
-    ensures { λ r. ⌜ r ≡ tally 2 (coded (now (codes .entry))) ⌝ }
+// How many codes are this one. They are a layout's, so that a short number counts them, and many are compared at once.
+pub fn count_in(codes: &[u8], code: u8) -> usize
+    requires { ⌜ length (now codes) ≤ 1024 ⌝ }
+    ensures { λ r. ⌜ r ≡ sumOf (weightOf code) (now (codes .entry)) ⌝ }
 {
-    let mut n: usize = 0;
+    let mut n: u16 = 0;
     for i in 0..codes.len() {
-        if codes[i] == 2 {
+        if codes[i] == code {
             n += 1;
         }
     }
-    n
+    n as usize
 }
 
 pub fn count_held(s: &[u8], l: Layout) -> usize
@@ -26,7 +29,7 @@ pub fn count_held(s: &[u8], l: Layout) -> usize
 {
     let start = l.codes;
     let end = start + l.entries;
-    count_in(&s[start..end])
+    count_in(&s[start..end], 2)
 }
 
 // How many entries of a layout are an Or.

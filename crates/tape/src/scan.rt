@@ -1,16 +1,21 @@
 // A scan over the entries of a sort: whether they are such entries, where they end, and whether they pass a largest figure.
+use crate::ends::end_of;
 use crate::flat::is_flat;
 use crate::layout::Layout;
 use crate::layout::Place;
 use crate::layout::code_at;
 use crate::layout::holds;
 use crate::layout::value_at;
+use crate::part::behind;
 use crate::utf8::well_formed;
 use grammar::codes::both;
 use grammar::codes::either;
 use grammar::codes::follows_in;
 use grammar::codes::table;
 use grammar::codes::word_at;
+use grammar::count::counts;
+use grammar::count::due_of;
+use grammar::count::has_pairs;
 use grammar::entry::Head;
 use grammar::entry::accepts;
 use grammar::entry::advance;
@@ -70,20 +75,13 @@ enum Turn {
 fn text_passes(s: &[u8], l: Layout, text: usize, len: usize, longest: u64) -> bool
     ensures { λ r. ⌜ r ≡ textPasses longest (part (now (s .entry)) (l .text + text) len) ⌝ }
 {
-    let section = l.text;
     if len == 0 {
         return true;
     }
     if longest == 0 {
         return true;
     }
-    if s.len() < section {
-        return true;
-    }
-    if s.len() - section < text {
-        return true;
-    }
-    well_formed(s, section + text, len)
+    well_formed(s, behind(l.text, text), len)
 }
 
 // Takes the entry at a place off the top of the stack, and puts what it brings there.
@@ -260,21 +258,24 @@ pub fn too_deep_in(grammar: &[u64], s: &[u8], l: Layout, sort: u64) -> bool
     over
 }
 
-// The same by the table of document 01.
+// The place behind the subtree of a sort of document 01, which stands at a place: by counting, and what stands there is not looked at.
 pub fn skip(s: &[u8], l: Layout, from: Place, sort: u64) -> Skipped
     ensures { λ r. ⌜ r ≡ skipAt (now (s .entry)) l from sort ⌝ }
 {
-    let grammar = table();
-    skip_in(&grammar, s, l, from, sort)
+    if !starts(s, l, from, sort) {
+        return Skipped::Nowhere;
+    }
+    let counts = counts();
+    end_of(&counts, s, l, from, due_of(sort), has_pairs(sort))
 }
 
-// A small tree is not measured.
+// The same by the table of document 01. A small tree is not measured.
 pub fn too_deep(s: &[u8], l: Layout, sort: u64) -> bool
     ensures { λ r. ⌜ r ≡ tooDeep (now (s .entry)) l sort ⌝ }
 {
-    let grammar = table();
-    if is_flat(&grammar, s, l) {
+    if is_flat(s, l) {
         return false;
     }
+    let grammar = table();
     too_deep_in(&grammar, s, l, sort)
 }

@@ -2,7 +2,7 @@
 -- Assumes nothing.
 use Rattle.answer.specs.Matches.{ended}
 use Rattle.definition.specs.Answers.{numberAlone}
-use Rattle.merge.proofs.Lower.{without-work}
+use Rattle.answer.proofs.Ends.{without-work}
 use Rattle.merge.proofs.Operation.{short, refused, given, given-or}
 use Rattle.tape.proofs.Roots.{bytes-all}
 use borrow.Author.Needs.{needs}

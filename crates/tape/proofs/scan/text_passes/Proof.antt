@@ -1,12 +1,12 @@
 -- `tape::scan::text_passes` meets its contract: past the end of the slice there is no text.
 -- Assumes nothing.
-use mathlib.Core.Path.{refl, _∙_}
 use Prim.Native.Nat.{_+_}
+use mathlib.Core.Path.{_∙_}
 use native.Mathlib.Omega.{arith}
 use borrow.Author.Needs.{needs}
 use borrow.Author.Tests.{ne-eqb}
 use denote.Ref.{now}
-use Rattle.tape.proofs.Parts.{part-past}
+use Rattle.tape.proofs.Parts.{part-capped}
 use Rattle.tape.proofs.Turns.{nothing-passes}
 use Rattle.tape.proofs.scan.text_passes.Statement.{statement}
 use Rattle.tape.proofs.scan.text_passes.Tie as tie
@@ -19,19 +19,12 @@ returns-2 c = rw (c .if2 .taken)
 
 returns-3 : tie.Need-returns-3
 returns-3 c =
-    let a = c .before .before .before .before .args in
-    nothing-passes (a .longest) _ (part-past (now (a .s)) (a .l .text + a .text) (a .len) (omega arith))
-
-returns-4 : tie.Need-returns-4
-returns-4 c =
     let a = c .before .before .before .before .before .args in
-    nothing-passes (a .longest) _ (part-past (now (a .s)) (a .l .text + a .text) (a .len) (omega arith))
-
-returns-5 : tie.Need-returns-5
-returns-5 c = c .well-formed .ensures ∙ rw (ne-eqb _ _ (c .before .before .before .if2 .left))
+    c .well-formed .ensures
+    ∙ rw (ne-eqb _ _ (c .before .before .if2 .left), c .before .behind .ensures, part-capped (now (a .s)) (a .l .text + a .text) (a .len) 18446744073709551615 (omega arith))
 
 pub text-passes-spec : {M : Type 1} → statement M
 text-passes-spec =
     tie.close
     (tie.spec
-    returns returns-2 returns-3 (λ c. search needs) returns-4 (λ c. search needs) (λ c κs. search needs) returns-5)
+    returns returns-2 (λ c κs. search needs) (λ c κs. search needs) returns-3)

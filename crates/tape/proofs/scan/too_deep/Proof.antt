@@ -9,12 +9,14 @@ use Rattle.tape.proofs.scan.too_deep.Tie as tie
 
 returns : tie.Need-returns
 returns c =
-    let a = c .before .before .before .before .before .args in
-    sym (flat-shallow (now (a .s)) (a .l) (a .sort)
-    (rw (← c .before .before .before .table .ensures) (sym (c .before .is-flat .ensures)) ∙ c .if1 .taken))
+    let a = c .before .before .before .args in
+    sym (flat-shallow (now (a .s)) (a .l) (a .sort) (sym (c .before .is-flat .ensures) ∙ c .if1 .taken))
 
 returns-2 : tie.Need-returns-2
-returns-2 c = c .too-deep-in .ensures ∙ rw (c .before .before .before .before .before .table .ensures)
+returns-2 c = c .too-deep-in .ensures ∙ rw (c .before .before .table .ensures)
 
 pub too-deep-spec : {M : Type 1} → statement M
-too-deep-spec = tie.close (tie.spec (λ c κs. search needs) (λ c. search needs) (λ c κs. search needs) returns (λ c. search needs) (λ c κs. search needs) returns-2)
+too-deep-spec =
+    tie.close
+    (tie.spec
+    (λ c κs. search needs) returns (λ c κs. search needs) (λ c. search needs) (λ c κs. search needs) returns-2)
