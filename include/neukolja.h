@@ -14,9 +14,8 @@
  * bytes, neukolja_registry 15,495, neukolja_check_library 75,359, neukolja_check_at 75,263, neukolja_merge 43,423,
  * neukolja_substitute 146,527, neukolja_expand 300,527, neukolja_preview 312,831, neukolja_judge 338,047,
  * neukolja_older 22,599, neukolja_profile 22,583, neukolja_provider 10,071, neukolja_argument_to_term 10,103,
- * neukolja_term_to_argument 10,199; the two of a sheet were not measured, and are registry's and expansion's with
- * little on top. A linker script or a thread must provide it, with what the caller itself needs and some room on top: nothing
- * checks it while a function runs.
+ * neukolja_term_to_argument 10,199, neukolja_sheet_open 15,623, neukolja_sheet_next 300,527. A linker script or a thread must
+ * provide it, with what the caller itself needs and some room on top: nothing checks it while a function runs.
  *
  * A function keeps nothing between calls, so several threads may call it at once, each with buffers of its own. What a call
  * writes to must not overlap anything else that it is given. No pointer may be null, not even with the length 0.

@@ -69,15 +69,16 @@ pub fn once(case: &Case, side: Side, machine: Option<Box<dyn Machine>>) {
     }
 }
 
-/// In buffers of the sizes that the case names. The counts are on the heap as these are: this frame is part of what
-/// `bench stack` measures.
 pub fn by_archive(case: &Case, machine: &mut dyn Machine) {
+    lend(case, |lent| machine.run(case, lent));
+}
+
+/// Runs something with buffers of the sizes that the case names. The counts are on the heap as these are: this frame is
+/// part of what `bench stack` measures.
+pub fn lend(case: &Case, run: impl FnOnce(Lent)) {
     let [mut result, mut work, mut message] = case.sizes.map(|size| vec![1; size]);
     let (mut counts, mut answer) = (Box::new(case.counts), [0; 7]);
-    machine.run(
-        case,
-        Lent { result: &mut result, work: &mut work, message: &mut message, counts: &mut counts, answer: &mut answer },
-    );
+    run(Lent { result: &mut result, work: &mut work, message: &mut message, counts: &mut counts, answer: &mut answer });
     black_box(answer);
 }
 

@@ -79,8 +79,8 @@ fn thousands(n: u64) -> String {
 
 fn print_stack(machine: &mut dyn Machine) {
     println!("| operation | deepest input | bytes of stack |\n|---|---|---|");
-    for (operation, what, bytes) in stack::measured(machine) {
-        println!("| {} | {what} | {bytes} |", operation.name());
+    for (function, what, bytes) in stack::measured(machine) {
+        println!("| {function} | {what} | {bytes} |");
     }
 }
 

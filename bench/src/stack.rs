@@ -9,18 +9,40 @@ use differential::provider;
 use differential::tape::{Node, encode};
 use std::ffi::c_void;
 
-/// The operation, what is deep in it, and the bytes of stack that it takes.
-pub fn measured(machine: &mut dyn Machine) -> Vec<(Operation, &'static str, usize)> {
+/// A function's name, what is deep in its input, and the bytes of stack that it takes.
+type Row = (&'static str, &'static str, usize);
+
+pub fn measured(machine: &mut dyn Machine) -> Vec<Row> {
     let there: Vec<_> = deepest().into_iter().filter(|(_, case)| machine.has(case.operation)).collect();
-    there.into_iter().map(|(what, case)| (case.operation, what, bytes(|| count::by_archive(&case, machine)))).collect()
+    let measure = |(what, case): (_, Case)| (case.operation.name(), what, bytes(|| count::by_archive(&case, machine)));
+    let mut rows: Vec<Row> = there.into_iter().map(measure).collect();
+    if machine.has_steps() {
+        rows.extend(of_a_sheet(true, LEFT.1, machine));
+        rows.extend(of_a_sheet(false, RIGHT.1, machine));
+    }
+    rows
+}
+
+/// What is deep in a body and in a rule, to the left and to the right.
+const LEFT: (&str, &str) = ("a body of 62 Since to the left", "60 Since to the left, four calls, a body of 62 Since");
+const RIGHT: (&str, &str) =
+    ("a body of 62 Since to the right", "60 Since to the right, four calls, a body of 62 Since");
+
+/// A sheet of one condition, the deepest rule: opened, and gone through.
+fn of_a_sheet(left: bool, rule: &'static str, machine: &mut dyn Machine) -> [Row; 2] {
+    let condition = encode(&deep_rule(left));
+    let sheet = [&1u32.to_le_bytes()[..], &(condition.len() as u32).to_le_bytes(), &condition].concat();
+    let case = Case::new(Operation::Expand, u32::MAX, vec![registry(left), sheet]);
+    let mut state = [0; 5];
+    let open = bytes(|| count::lend(&case, |lent| machine.open_sheet(&case, lent, &mut state)));
+    assert_eq!(state[1], 1, "the sheet was opened");
+    let next = bytes(|| count::lend(&case, |lent| machine.next_of_sheet(&case, lent, &mut state)));
+    [("sheet_open", rule, open), ("sheet_next", rule, next)]
 }
 
 fn deepest() -> Vec<(&'static str, Case)> {
-    let sides = [
-        (true, "a body of 62 Since to the left", "60 Since to the left, four calls, a body of 62 Since"),
-        (false, "a body of 62 Since to the right", "60 Since to the right, four calls, a body of 62 Since"),
-    ];
-    let mut all: Vec<_> = sides.into_iter().flat_map(|(left, body, rule)| made_of_since(left, body, rule)).collect();
+    let sides = [(true, LEFT), (false, RIGHT)];
+    let mut all: Vec<_> = sides.into_iter().flat_map(|(left, (body, rule))| made_of_since(left, body, rule)).collect();
     let sets = (0..63).fold(Node::new(75, 0, vec![]), |inner, _| Node::counted(76, 1, vec![inner]));
     let term = provider::term_of(&sets).expect("no field");
     for (operation, tree) in
@@ -33,7 +55,7 @@ fn deepest() -> Vec<(&'static str, Case)> {
 }
 
 fn made_of_since(left: bool, body: &'static str, rule: &'static str) -> Vec<(&'static str, Case)> {
-    let registry = encode(&list(1, vec![deep_definition(left), passing_on()]));
+    let registry = registry(left);
     let (one, called) = (encode(&deep_definition(left)), encode(&call("deep", 7, vec![hours(1)])));
     let deep = encode(&deep_rule(left));
     let bodies = [
@@ -55,6 +77,10 @@ fn made_of_since(left: bool, body: &'static str, rule: &'static str) -> Vec<(&'s
     let rules = rules.into_iter().map(|(operation, tapes)| (rule, operation, tapes));
     let case = |(what, operation, tapes)| (what, Case::new(operation, u32::MAX, tapes));
     bodies.chain(rules).map(case).collect()
+}
+
+fn registry(left: bool) -> Vec<u8> {
+    encode(&list(1, vec![deep_definition(left), passing_on()]))
 }
 
 /// Nesting 64, as deep as may be: 62 Since, a predicate, and the term in its field.
