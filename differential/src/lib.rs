@@ -3,6 +3,7 @@
 pub mod archive;
 pub mod bench_cases;
 pub mod brim;
+pub mod by_hand;
 pub mod case;
 pub mod compare;
 pub mod damage;
