@@ -7,6 +7,7 @@ pub mod by_hand;
 pub mod case;
 pub mod compare;
 pub mod damage;
+pub mod edges;
 pub mod generate;
 pub mod judge;
 pub mod merge;
