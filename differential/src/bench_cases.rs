@@ -1,58 +1,8 @@
 //! Document 01's fourteen bench cases, its `e(1, 2)`, and the order in a Since.
 
+use crate::by_hand::{array, call, condition, definition, fields, integer, list, p, parameter, sigil, term, text};
 use crate::case::{Case, Operation};
 use crate::tape::{Node, encode, span};
-
-fn text(t: &str) -> Node {
-    Node::with_text(40, t.as_bytes())
-}
-
-fn list(width: usize, items: Vec<Node>) -> Node {
-    Node::counted(41, width, items)
-}
-
-fn fields(fields: Vec<(&str, Node)>) -> Node {
-    list(2, fields.into_iter().flat_map(|(name, term)| [text(name), term]).collect())
-}
-
-/// `P{…}`: no namespace, action P, empty kind.
-fn p(of: Vec<(&str, Node)>) -> Node {
-    Node::new(7, 0, vec![Node::new(42, 0, vec![]), list(1, vec![]), text("P"), text(""), fields(of)])
-}
-
-fn integer(n: u64) -> Node {
-    Node::new(21, n, vec![])
-}
-
-fn parameter(name: &str) -> Node {
-    Node::with_text(32, name.as_bytes())
-}
-
-fn sigil(code: u8, name: &str) -> Node {
-    Node::new(12, 0, vec![Node::with_text(code, name.as_bytes())])
-}
-
-fn array(items: Vec<Node>) -> Node {
-    Node::counted(29, 1, items)
-}
-
-fn definition(name: &str, parameters: &[&str], body: Node) -> Node {
-    let parameters = parameters.iter().flat_map(|p| [Node::new(42, 0, vec![]), text(p)]).collect();
-    Node::new(60, 0, vec![text(name), list(2, parameters), Node::new(62, 0, vec![body])])
-}
-
-/// A bare call with span 7..9.
-fn call(name: &str, arguments: Vec<Node>) -> Node {
-    Node::new(11, 0, vec![Node::new(54, span(7, 9), vec![text(name), list(1, arguments)])])
-}
-
-fn term(t: Node) -> Node {
-    Node::new(56, 0, vec![t])
-}
-
-fn condition(c: Node) -> Node {
-    Node::new(55, 0, vec![c])
-}
 
 fn definitions() -> Node {
     let slot = || Node::with_text(44, b"v");

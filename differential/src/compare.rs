@@ -46,7 +46,8 @@ pub fn expected(case: &Case) -> Result<(Answer, Notes, Witness), String> {
 
 fn hear_upstream(case: &Case, answer: &Answer, notes: &Notes) -> Result<Witness, String> {
     if case.operation == Operation::Sheet {
-        return hear_of_sheet(&case.tapes[0]);
+        let opened = hear_of_sheet(&case.tapes[0], sheet::LIMIT, sheet::FILE)?;
+        return Ok(if opened.is_some() { Witness::Upstream } else { Witness::ModelAlone });
     }
     if notes.trees.is_empty() {
         return Ok(Witness::ModelAlone);
@@ -141,17 +142,20 @@ fn run(case: &Case, trees: &[Node], reach: Reach) -> Run {
     }
 }
 
-/// Each condition of a sheet is an expansion. Charges and counts go from one to the next.
-fn hear_of_sheet(input: &[u8]) -> Result<Witness, String> {
-    let Some((registry, sheet)) = sheet::split(input) else { return Ok(Witness::ModelAlone) };
-    let Ok(conditions) = sheet::open(registry, sheet) else { return Ok(Witness::ModelAlone) };
-    let mut charged = 0;
-    for (case, answer) in sheet::steps(registry, &conditions, sheet::LIMIT, sheet::FILE, [0; COUNTS]) {
-        same("what is left of the budget", &u64::from(case.limit), &(u64::from(sheet::LIMIT) - charged))?;
-        same("the expansion of a condition", &expected(&case)?.0, &answer)?;
+/// Each condition of a sheet is an expansion. Charges and counts go from one to the next. Who stands behind each answer, if
+/// the sheet can be opened.
+pub fn hear_of_sheet(input: &[u8], budget: u32, file: u16) -> Result<Option<Vec<Witness>>, String> {
+    let Some((registry, sheet)) = sheet::split(input) else { return Ok(None) };
+    let Ok(conditions) = sheet::open(registry, sheet) else { return Ok(None) };
+    let (mut charged, mut witnesses) = (0, Vec::new());
+    for (case, answer) in sheet::steps(registry, &conditions, budget, file, [0; COUNTS]) {
+        same("what is left of the budget", &u64::from(case.limit), &(u64::from(budget) - charged))?;
+        let (expansion, _, witness) = expected(&case)?;
+        same("the expansion of a condition", &expansion, &answer)?;
         charged += answer.charged;
+        witnesses.push(witness);
     }
-    Ok(Witness::Upstream)
+    Ok(Some(witnesses))
 }
 
 /// The same trees in upstream's types, turned there; and what was turned, turned back.

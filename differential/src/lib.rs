@@ -3,9 +3,11 @@
 pub mod archive;
 pub mod bench_cases;
 pub mod brim;
+pub mod by_hand;
 pub mod case;
 pub mod compare;
 pub mod damage;
+pub mod edges;
 pub mod generate;
 pub mod judge;
 pub mod merge;

@@ -5,14 +5,15 @@ use differential::compare::Machine;
 use differential::program::Program;
 use differential::tally::Tally;
 use differential::tape::{self, Node};
-use differential::{archive, compare, generate, model, record, sheet, upstream, vectors};
+use differential::{archive, compare, edges, generate, model, record, sheet, upstream, vectors};
 use std::process::ExitCode;
 
 const USAGE: &str = "differential COMMAND
   run [--seed N] [--cases N] [--from N] [--only OPERATION,..]   compare on cases from a seed
   show [--seed N] [--from N]   print one of them, with its answer
   replay FILE                  compare on a list of vectors, and with what it expects
-  (run and replay take --program PATH, the house sheet's program)
+  edges [--point N]            compare on the systematic cases of document 02's points, or of one
+  (run, replay and edges take --program PATH, the house sheet's program)
   record FILE [--seed N] [--cases N] [--only OPERATION,..]   write the fixed list, from 400,000 cases";
 
 /// After so many differences a campaign ends.
@@ -27,6 +28,7 @@ fn main() -> ExitCode {
             Ok(run(seed, from, cases, &only(&args)?, machines(&args)?))
         }),
         Some("show") => option(&args, "--seed", 1).and_then(|seed| Ok(show(seed, option(&args, "--from", 0)?))),
+        Some("edges") => option(&args, "--point", 0).and_then(|point| Ok(edges(point, machines(&args)?))),
         Some("replay") if args.len() >= 2 => machines(&args).and_then(|machines| replay(&args[1], machines)),
         Some("record") if args.len() >= 2 => option(&args, "--seed", 1)
             .and_then(|seed| record(&args[1], seed, option(&args, "--cases", 400_000)?, &only(&args)?)),
@@ -141,6 +143,14 @@ fn replay(path: &str, mut machines: Vec<Box<dyn Machine>>) -> Result<bool, Strin
     tally.print();
     println!("{} vectors: {differences} differences", list.len());
     Ok(differences == 0)
+}
+
+/// The lists of one point, or with 0 of all.
+fn edges(point: u64, mut machines: Vec<Box<dyn Machine>>) -> bool {
+    let lists = edges::lists().into_iter().filter(|list| point == 0 || u64::from(list.point) == point);
+    let tried: Vec<_> = lists.map(|list| (list, edges::try_list(&list, &mut machines))).collect();
+    edges::print(&tried);
+    !tried.is_empty() && tried.iter().all(|(_, tried)| tried.differences == 0)
 }
 
 fn record(path: &str, seed: u64, cases: u64, only: &[Operation]) -> Result<bool, String> {

@@ -11,9 +11,9 @@ use crate::trees::{DEPTH, Ground, Trees};
 pub const LIMIT: u32 = 1_000;
 pub const FILE: u16 = 0;
 
-const MOST_CONDITIONS: u32 = 32;
-const LONGEST_SHEET: usize = 65_536;
-const LONGEST_REGISTRY: usize = 12_296;
+pub const MOST_CONDITIONS: u32 = 32;
+pub const LONGEST_SHEET: usize = 65_536;
+pub const LONGEST_REGISTRY: usize = 12_296;
 
 /// Registry and sheet in what the program reads, if it has a registry.
 pub fn split(input: &[u8]) -> Option<(&[u8], &[u8])> {
@@ -68,6 +68,11 @@ pub fn steps(registry: &[u8], conditions: &[&[u8]], budget: u32, file: u16, coun
 
 /// What the program prints.
 pub fn lines(input: &[u8]) -> String {
+    lines_under(input, LIMIT, FILE)
+}
+
+/// What it would print with another limit and file.
+pub fn lines_under(input: &[u8], limit: u32, file: u16) -> String {
     let line = |place: usize, answer: &Answer| {
         let [number, start, end, _, charged] = answer.numbers();
         format!("{place} {number} {start} {end} {charged}\n")
@@ -76,7 +81,7 @@ pub fn lines(input: &[u8]) -> String {
     match open(registry, sheet) {
         Err(refused) => line(0, &refused),
         Ok(conditions) => {
-            let steps = steps(registry, &conditions, LIMIT, FILE, [0; _]);
+            let steps = steps(registry, &conditions, limit, file, [0; _]);
             steps.iter().enumerate().map(|(i, (_, answer))| line(i + 1, answer)).collect()
         }
     }
@@ -84,7 +89,8 @@ pub fn lines(input: &[u8]) -> String {
 
 // ------------------------------------------------------------------ random inputs
 
-fn with_length(bytes: &[u8]) -> Vec<u8> {
+/// The bytes behind their length.
+pub fn with_length(bytes: &[u8]) -> Vec<u8> {
     [&(bytes.len() as u32).to_le_bytes()[..], bytes].concat()
 }
 

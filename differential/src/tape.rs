@@ -169,8 +169,8 @@ impl Node {
     }
 }
 
-pub fn span(start: u32, end: u32) -> u64 {
-    u64::from(start) | u64::from(end) << 32
+pub const fn span(start: u32, end: u32) -> u64 {
+    start as u64 | (end as u64) << 32
 }
 
 pub fn span_start(span: u64) -> u64 {
