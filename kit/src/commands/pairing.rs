@@ -168,6 +168,7 @@ pub fn corpus(words: &[String]) -> Result<Done, String> {
     let made = corpus::make(seed, cases)?;
     corpus::write(&made, std::path::Path::new(folder))?;
     let bytes = (made.requests.len() + made.responses.len()) as u64;
-    say!("{} cases, {} bytes of requests and responses in {folder}", made.cases, pair::grouped(bytes));
+    let cases = pair::grouped(made.cases as u64);
+    say!("{cases} cases, {} bytes of requests and responses in {folder}", pair::grouped(bytes));
     Ok(Done::Well)
 }

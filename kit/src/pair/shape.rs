@@ -68,6 +68,17 @@ impl Shape {
         shape
     }
 
+    /// The same with each of its trees edited.
+    pub fn edited(&self, mut edit: impl FnMut(&mut Node)) -> Shape {
+        let mut shape = self.clone();
+        for part in &mut shape.parts {
+            if let Part::Tree(tree) = part {
+                edit(tree);
+            }
+        }
+        shape
+    }
+
     /// An operation asked of trees, with the usual buffers and counts.
     pub fn asking(operation: Operation, limit: u32, trees: Vec<Node>) -> Shape {
         let limit = if operation.charges() { limit } else { 0 };

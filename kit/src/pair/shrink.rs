@@ -1,6 +1,7 @@
 //! Makes a case smaller, as long as it stays what it was found for.
 
-use super::edits::{self, collect_texts, given, redirect, rename, with_body, without_parameter, without_spans};
+use super::edits::{collect_texts, given, redirect, rename};
+use super::edits::{with_body, without_comparison, without_parameter, without_spans};
 use super::shape::{Part, Shape};
 use super::{limits, operations, plain, simpler};
 use crate::{archive, reading};
@@ -160,12 +161,7 @@ impl Shrinker<'_> {
 
     /// All spans at once; one by one they come with the other values.
     fn spans(&mut self) -> Result<(), String> {
-        let without = |part: &Part| match part {
-            Part::Tree(tree) => Part::Tree(without_spans(tree)),
-            Part::Bytes(bytes) => Part::Bytes(bytes.clone()),
-        };
-        let parts = self.best.parts.iter().map(without).collect();
-        self.consider(Shape { case: self.best.case.clone(), parts }).map(drop)
+        self.consider(self.best.edited(|tree| *tree = without_spans(tree))).map(drop)
     }
 
     fn part(&mut self, part: usize) -> Result<(), String> {
@@ -204,13 +200,8 @@ impl Shrinker<'_> {
                 let argument =
                     self.best.parts.iter().filter_map(Part::tree).find_map(|tree| given(tree, &names, place));
                 for inlined in [None, argument] {
-                    let mut shape = self.best.clone();
-                    for part in &mut shape.parts {
-                        if let Part::Tree(tree) = part {
-                            without_parameter(tree, &names, place, inlined.as_ref());
-                        }
-                    }
-                    self.consider(shape)?;
+                    let inlined = inlined.as_ref();
+                    self.consider(self.best.edited(|tree| without_parameter(tree, &names, place, inlined)))?;
                 }
             }
         }
@@ -260,12 +251,7 @@ impl Shrinker<'_> {
         let [old, new] = [from, to].map(|definition| definition.children[0].text.clone());
         let count = to.children[1].value as usize;
         for filler in [plain::holding(56, plain::wildcard()), plain::holding(55, plain::tp())] {
-            let mut shape = self.best.clone();
-            for part in &mut shape.parts {
-                if let Part::Tree(tree) = part {
-                    redirect(tree, &old, &new, count, &filler);
-                }
-            }
+            let mut shape = self.best.edited(|tree| redirect(tree, &old, &new, count, &filler));
             if let Part::Tree(registry) = &mut shape.parts[0] {
                 registry.children.remove(place);
                 registry.value -= 1;
@@ -287,12 +273,7 @@ impl Shrinker<'_> {
                 continue;
             }
             for condition in [plain::tp(), plain::equal(body.children[0].clone())] {
-                let mut shape = self.best.clone();
-                for part in &mut shape.parts {
-                    if let Part::Tree(tree) = part {
-                        *tree = edits::without_comparison(tree, &name.text);
-                    }
-                }
+                let mut shape = self.best.edited(|tree| *tree = without_comparison(tree, &name.text));
                 if let Part::Tree(registry) = &mut shape.parts[0] {
                     registry.children[i].children[2] = plain::holding(62, condition);
                 }
@@ -328,13 +309,7 @@ impl Shrinker<'_> {
         for (text, letters) in texts.clone() {
             let is_free = |letter: &&str| !texts.iter().any(|(other, _)| other == letter.as_bytes());
             let Some(letter) = letters.split(' ').find(is_free) else { continue };
-            let mut shape = self.best.clone();
-            for part in &mut shape.parts {
-                if let Part::Tree(tree) = part {
-                    rename(tree, &text, letter.as_bytes());
-                }
-            }
-            if self.consider(shape)? {
+            if self.consider(self.best.edited(|tree| rename(tree, &text, letter.as_bytes())))? {
                 texts.push((letter.as_bytes().to_vec(), letters));
             }
         }
