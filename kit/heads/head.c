@@ -1,10 +1,10 @@
 /* A head in C: it links the archive and answers requests on standard input with responses on standard output, as docs/SUPPLIER.md
  * describes them. `./neukolja pair ours HEAD` compares it with the kit's own.
  *
- *     cc -O1 -Iinclude kit/heads/head.c target/staticlib/libneukolja.a -o target/head
+ *     kit/heads/build . target/head
  *
  * It also compiles with the header and the archive of an earlier version: `kit/heads/build` finds out from the header what that
- * one has, and defines HAS_FILE, HAS_COUNTS, HAS_OLDER and HAS_PREVIEW accordingly. */
+ * one has, and defines HAS_FILE and the like accordingly. */
 #include <stdint.h>
 #include <stdio.h>
 #include <stdlib.h>
@@ -12,7 +12,23 @@
 
 #include "neukolja.h"
 
-enum { HELLO = 0, CHECK = 1, REGISTRY = 2, SUBSTITUTE = 3, EXPAND = 4, PREVIEW = 5, OLDER = 10 };
+enum {
+    HELLO = 0,
+    CHECK = 1,
+    REGISTRY = 2,
+    SUBSTITUTE = 3,
+    EXPAND = 4,
+    PREVIEW = 5,
+    CHECK_LIBRARY = 6,
+    CHECK_AT = 7,
+    JUDGE = 8,
+    MERGE = 9,
+    OLDER = 10,
+    PROFILE = 11,
+    PROVIDER = 12,
+    ARGUMENT_TO_TERM = 13,
+    TERM_TO_ARGUMENT = 14
+};
 enum { COUNTS = 255, WORDS = 7, LONGEST = 1 << 20 };
 
 /* A request, taken apart; its tapes are read where they lie. */
@@ -141,8 +157,23 @@ static void say_hello(uint32_t id)
 #ifdef HAS_PREVIEW
         " preview"
 #endif
+#ifdef HAS_LIBRARY
+        " check_library check_at"
+#endif
+#ifdef HAS_JUDGE
+        " judge"
+#endif
+#ifdef HAS_MERGE
+        " merge"
+#endif
 #ifdef HAS_OLDER
         " older"
+#endif
+#ifdef HAS_PROFILE
+        " profile"
+#endif
+#ifdef HAS_PROVIDER
+        " provider argument_to_term term_to_argument"
 #endif
         "\nfeatures sizes"
 #ifdef HAS_COUNTS
@@ -180,6 +211,55 @@ static void say_hello(uint32_t id)
 #define STATE
 #endif
 
+/* the operations that came after the preview, each in its version */
+static void answer_later(struct request *q, uint64_t words[WORDS])
+{
+    switch (q->operation) {
+#ifdef HAS_LIBRARY
+    case CHECK_LIBRARY:
+        neukolja_check_library(TAPE(0), RESULT, MESSAGE, words);
+        break;
+    case CHECK_AT:
+        neukolja_check_at(TAPE(0), q->index, MESSAGE, words);
+        break;
+#endif
+#ifdef HAS_JUDGE
+    case JUDGE:
+        neukolja_judge(TAPE(0), TAPE(1), TAPE(2), LIMIT, RESULT, WORK, MESSAGE, words);
+        break;
+#endif
+#ifdef HAS_MERGE
+    case MERGE:
+        neukolja_merge(TAPE(0), TAPE(1), RESULT, MESSAGE, words);
+        break;
+#endif
+#ifdef HAS_OLDER
+    case OLDER:
+        neukolja_older(TAPE(0), RESULT, words);
+        break;
+#endif
+#ifdef HAS_PROFILE
+    case PROFILE:
+        neukolja_profile(TAPE(0), words);
+        break;
+#endif
+#ifdef HAS_PROVIDER
+    case PROVIDER:
+        neukolja_provider(TAPE(0), words);
+        break;
+    case ARGUMENT_TO_TERM:
+        neukolja_argument_to_term(TAPE(0), RESULT, words);
+        break;
+    case TERM_TO_ARGUMENT:
+        neukolja_term_to_argument(TAPE(0), RESULT, words);
+        break;
+#endif
+    default:
+        (void)words;
+        stop("an operation that the hello does not name");
+    }
+}
+
 static void answer(struct request *q)
 {
     uint64_t words[WORDS] = {0};
@@ -202,13 +282,8 @@ static void answer(struct request *q)
         neukolja_preview(TAPE(0), TAPE(1), LIMIT, WORK, MESSAGE, words);
         break;
 #endif
-#ifdef HAS_OLDER
-    case OLDER:
-        neukolja_older(TAPE(0), RESULT, words);
-        break;
-#endif
     default:
-        stop("an operation that the hello does not name");
+        answer_later(q, words);
     }
     if (!keeps_counts)
         memset(q->counts, 0, sizeof q->counts);

@@ -8,7 +8,7 @@ use crate::protocol;
 use crate::reading;
 use crate::response::Response;
 use differential::case::{Answer, Case, OPERATIONS};
-use differential::tape::{self, Node};
+use differential::tape::{self, LARGEST_TEXT, Node};
 use differential::{compare, record};
 use std::collections::{BTreeMap, BTreeSet};
 use std::path::Path;
@@ -95,7 +95,9 @@ impl Covered {
             let sizes = reading::sizes(bytes).unwrap_or_default();
             let over = [("entries", sizes.0, 1025), ("bytes of text", sizes.1, 3073)].into_iter();
             self.figures.extend(over.filter(|(_, is, over)| is == over).map(|(figure, is, _)| (figure, is)));
-            if let Ok(tree) = reading::tree(bytes, *root) {
+            // Those of a provider have no text in the notation, but codes of their own.
+            let tree = reading::tree(bytes, *root).ok().or_else(|| tape::accept(bytes, *root, LARGEST_TEXT).ok());
+            if let Some(tree) = tree {
                 tree.visit(&mut |node| {
                     self.codes.insert(node.code);
                 });

@@ -3,7 +3,7 @@
 const MEANINGS: [(u64, &str); 37] = [
     (0, "success"),
     (1, "a buffer is too short"),
-    (2, "not a tape with the root wanted"),
+    (2, "no tape with the root wanted, or a text in it that is no UTF-8"),
     (3, "over a largest figure"),
     (10, "reserved name"),
     (11, "name defined before"),

@@ -40,7 +40,8 @@ impl Args {
     }
 
     pub fn number<N: std::str::FromStr>(&self, option: &str) -> Result<Option<N>, String> {
-        let parse = |value: &str| value.replace([',', '_'], "").parse::<N>().map_err(|_| format!("{option}: {value}?"));
+        let wrong = |value: &str| format!("{option}: `{value}` is no number that can stand there");
+        let parse = |value: &str| value.replace([',', '_'], "").parse::<N>().map_err(|_| wrong(value));
         self.value(option).map(parse).transpose()
     }
 }

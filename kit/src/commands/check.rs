@@ -2,7 +2,7 @@
 
 use super::args::Args;
 use super::input::Rules;
-use super::{Done, refusal, say_who};
+use super::{Done, counted, refusal, say_who};
 use crate::archive::{self, Expander};
 use crate::notation;
 use crate::response::Response;
@@ -17,14 +17,14 @@ pub fn check(words: &[String]) -> Result<Done, String> {
     for (name, response) in &mistakes {
         say!("{name}: {}", refusal(response, rules.source.as_ref()));
     }
-    say!("{} macros, {} mistakes", rules.definitions.len(), mistakes.len());
+    say!("{}, {}", counted(rules.definitions.len(), "macro"), counted(mistakes.len(), "mistake"));
     Ok(if mistakes.is_empty() { Done::Well } else { Done::Refused })
 }
 
 /// The registry's refusal, if its tape or names are refused, and each definition that its body check refuses.
 fn mistakes(expander: &mut Expander, rules: &Rules) -> Result<Vec<(String, Response)>, String> {
     let library = archive::operation("check_library")?;
-    let whole = expander.answer(&Case::new(library, 0, vec![rules.registry.clone()]));
+    let whole = expander.answer(&Case::new(library, 0, vec![rules.for_macros()]));
     say_who(expander, library);
     let name = |i: usize| format!("`{}`", notation::name(&rules.definitions[i].children[0].text));
     if whole.number() == 0 {

@@ -1,4 +1,4 @@
-//! `expand`, `preview` and `judge`: conditions with the macros that they call.
+//! `expand`, `preview`, `judge` and `profile`: conditions with the macros that they call.
 
 use super::args::Args;
 use super::input::{self, Rules};
@@ -6,6 +6,8 @@ use super::show::result_tree;
 use super::{Done, refusal, say_who};
 use crate::archive::{self, Expander};
 use crate::notation;
+use crate::pair;
+use crate::reading;
 use crate::response::Response;
 use differential::case::{COUNTS, Case, Counts};
 
@@ -22,7 +24,7 @@ struct Asked {
 fn asked(args: &Args, paths: &[String]) -> Result<Asked, String> {
     let rules = Rules::load(paths)?;
     if rules.conditions.is_empty() {
-        return Err(format!("{}: no condition to expand", paths.join(" ")));
+        return Err(format!("{}: no condition in it", paths.join(" ")));
     }
     let limit = args.number("--limit")?.or(rules.limit).unwrap_or(NO_LIMIT);
     let file = args.number("--file")?.or(rules.file).unwrap_or(0);
@@ -126,5 +128,38 @@ pub fn judge(words: &[String]) -> Result<Done, String> {
         0 => say!("{}: equal but for generated names, {} charged", condition.name, response.charged()),
         _ => say!("{}: {}", condition.name, refusal(&response, asked.rules.source.as_ref())),
     }
+    if response.number() == 50 {
+        let ours = expander.answer(&Case { operation: archive::operation("expand")?, ..case.clone() });
+        say!("    {}", pair::first_entry_but_names(&ours.result, &case.tapes[2]));
+    }
     Ok(if response.number() == 0 { Done::Well } else { Done::Refused })
+}
+
+/// The first rule of the battery head that each condition breaks. A head gets what its rules are expanded to, so where
+/// there are macros they are expanded first.
+pub fn profile(words: &[String]) -> Result<Done, String> {
+    let args = Args::parse(words, &["--limit", "--file"], &["--as-is"])?;
+    let asked = asked(&args, args.words(1, 2, "profile FILE [CONDITIONS] [--as-is] [--limit N] [--file N]")?)?;
+    let operation = archive::operation("profile")?;
+    let mut expander = Expander::default();
+    let expanded = match asked.rules.definitions.is_empty() || args.has("--as-is") {
+        true => None,
+        false => Some(asked.answers(&mut expander, "expand")?.0),
+    };
+    let mut all_fit = true;
+    for (i, condition) in asked.rules.conditions.iter().enumerate() {
+        let of = |response: &Response| reading::with_zeros(&response.result);
+        let response = match expanded.as_ref().map(|answers| &answers[i]) {
+            Some(refused) if refused.number() != 0 => refused.clone(),
+            Some(answer) => expander.answer(&Case::new(operation, 0, vec![of(answer)])),
+            None => expander.answer(&Case::new(operation, 0, vec![condition.tape.clone()])),
+        };
+        match response.number() {
+            0 => say!("{}: fit for the battery head", condition.name),
+            _ => say!("{}: {}", condition.name, refusal(&response, asked.rules.source.as_ref())),
+        }
+        all_fit &= response.number() == 0;
+    }
+    say_who(&expander, operation);
+    Ok(if all_fit { Done::Well } else { Done::Refused })
 }

@@ -34,19 +34,21 @@ pub const USAGE: &str = "neukolja COMMAND
   tape FILE [-o TAPE]         a text as a tape (--macros, --rule NAME: of a file with several)
   preview FILE [CONDITIONS]   number, charge and size of each result, without the result
   older FILE [-o TAPE]        the tape for heads without weeks
-  judge FILE TAPE             whether another supplier's result is equal to ours
-  profile FILE                whether conditions are fit for the battery head
+  judge FILE TAPE             whether another supplier's result is equal to ours (--rule NAME: of a file with several)
+  profile FILE [CONDITIONS]   whether conditions, expanded, are fit for the battery head (--as-is: not expanded)
   merge FIRST SECOND [-o T]   two registries joined
   pair A B                    two expanders side by side; the first difference as a rule
   serve                       this archive, for `pair`
   wrong NAME                  a deliberately wrong head, for `pair` (wrong --list)
   corpus FOLDER               writes the corpus: cases with the Rust's answers
-A FILE is a text (docs/NOTATION.md) or a tape; `-` is standard input. --limit N and --file N go with expand, preview and
-judge. `neukolja pair` alone says how to use it.";
+A FILE is a text (docs/NOTATION.md) or a tape; `-` is standard input. --limit N and --file N go with expand, preview,
+judge and profile. `neukolja pair` alone says how to use it. Exit status: 0, 1 if something was refused or a difference
+was found, 2 if the command could not be carried out.";
 
 pub fn run(words: &[String]) -> Result<Done, String> {
-    let (command, rest) = words.split_first().ok_or(USAGE)?;
+    let Some((command, rest)) = words.split_first() else { return Ok(help()) };
     match command.as_str() {
+        "help" | "--help" | "-h" => Ok(help()),
         "expand" => expand::expand(rest),
         "preview" => expand::preview(rest),
         "judge" => expand::judge(rest),
@@ -54,14 +56,24 @@ pub fn run(words: &[String]) -> Result<Done, String> {
         "show" => show::show(rest),
         "tape" => show::tape(rest),
         "older" => tapes::older(rest),
-        "profile" => tapes::profile(rest),
+        "profile" => expand::profile(rest),
         "merge" => tapes::merge(rest),
         "pair" => pairing::pair(rest),
         "serve" => pairing::serve(rest),
         "wrong" => pairing::wrong(rest),
         "corpus" => pairing::corpus(rest),
-        _ => Err(USAGE.to_string()),
+        _ => Err(format!("no command `{command}`\n{USAGE}")),
     }
+}
+
+fn help() -> Done {
+    say!("{USAGE}");
+    Done::Well
+}
+
+/// `1 macro`, `2 macros`
+fn counted(n: usize, what: &str) -> String {
+    format!("{n} {what}{}", if n == 1 { "" } else { "s" })
 }
 
 /// Says so where the archive was not the one to answer.

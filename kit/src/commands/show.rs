@@ -1,16 +1,17 @@
 //! `show` and `tape`: from tapes to text and back.
 
 use super::args::Args;
-use super::input::{self, Rules};
+use super::input;
 use super::{Done, write_out};
 use crate::notation::{self, Spans};
 use crate::reading::{self, Sections};
 use differential::tape::{self, Node, Sort, Value};
 
 pub fn show(words: &[String]) -> Result<Done, String> {
-    let args = Args::parse(words, &[], &["--plain", "--entries"])?;
-    let [path] = args.words(1, 1, "show TAPE [--plain] [--entries]")? else { unreachable!("one word") };
-    let bytes = input::tape(path)?;
+    let args = Args::parse(words, &["--rule"], &["--plain", "--entries", "--macros"])?;
+    let usage = "show TAPE [--plain] [--entries] [--macros] [--rule NAME]";
+    let [path] = args.words(1, 1, usage)? else { unreachable!("one word") };
+    let bytes = input::chosen(&args, path)?;
     if args.has("--entries") {
         let sections = reading::sections(&bytes).map_err(|why| format!("{path}: {why}"))?;
         say!("{}", entries(sections).trim_end());
@@ -23,7 +24,8 @@ pub fn show(words: &[String]) -> Result<Done, String> {
             Ok(Done::Well)
         }
         Err(why) => {
-            say!("{path} is no tree: {why}. `show --entries` shows its entries.");
+            let how = if reading::sections(&bytes).is_ok() { "; `show --entries` shows its entries" } else { "" };
+            say!("{path}: no tree: {why}{how}");
             Ok(Done::Refused)
         }
     }
@@ -53,16 +55,7 @@ pub fn entries(s: Sections) -> String {
 pub fn tape(words: &[String]) -> Result<Done, String> {
     let args = Args::parse(words, &["-o", "--rule"], &["--macros"])?;
     let [path] = args.words(1, 1, "tape FILE [--macros] [--rule NAME] [-o TAPE]")? else { unreachable!("one word") };
-    let bytes = if args.has("--macros") {
-        Rules::load(&[path.clone()])?.registry
-    } else if let Some(wanted) = args.value("--rule") {
-        let rules = Rules::load(&[path.clone()])?;
-        let found = rules.conditions.into_iter().find(|condition| condition.name == wanted);
-        found.ok_or(format!("{path} has no rule `{wanted}`"))?.tape
-    } else {
-        input::tape(path).map_err(|why| format!("{why}; --macros and --rule NAME choose one"))?
-    };
-    write_out(args.value("-o"), &bytes)
+    write_out(args.value("-o"), &input::chosen(&args, path)?)
 }
 
 /// A result's tree as text, with spans if it has any, or why it is none.

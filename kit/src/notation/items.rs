@@ -29,14 +29,12 @@ impl Document {
     }
 
     /// The one tree that the text stands for: what it says `root` of, its definitions, or its one condition.
-    pub fn tree(&self) -> Result<Node, String> {
+    pub fn tree(&self) -> Option<Node> {
         match (&self.root, &self.definitions[..], &self.rules[..]) {
-            (Some(root), ..) => Ok(root.clone()),
-            (None, _, []) => Ok(self.registry()),
-            (None, [], [rule]) => Ok(rule.condition.clone()),
-            (None, definitions, rules) => {
-                Err(format!("{} definitions and {} rules are no one tape", definitions.len(), rules.len()))
-            }
+            (Some(root), ..) => Some(root.clone()),
+            (None, _, []) => Some(self.registry()),
+            (None, [], [rule]) => Some(rule.condition.clone()),
+            _ => None,
         }
     }
 }

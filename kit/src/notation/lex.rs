@@ -46,6 +46,9 @@ const SYMBOLS: [&str; 27] = [
     "!", "+", "-", "*", "@", "/",
 ];
 
+/// The byte order mark.
+const MARK: char = '\u{FEFF}';
+
 /// The units of an interval with their codes.
 pub const UNITS: [(&str, u8); 5] = [("s", 48), ("m", 49), ("h", 50), ("d", 51), ("w", 64)];
 
@@ -89,7 +92,12 @@ impl Lexer<'_> {
     /// Blanks, line ends, and comments from `//` to the end of a line.
     fn skip_blanks(&mut self) {
         loop {
-            self.at += names::prefix(self.rest(), char::is_whitespace);
+            // Some editors begin a text with a mark that nobody sees.
+            let is_mark = self.at == 0 && self.rest().starts_with(MARK);
+            self.at += if is_mark { MARK.len_utf8() } else { names::prefix(self.rest(), char::is_whitespace) };
+            if is_mark {
+                continue;
+            }
             if !self.rest().starts_with("//") {
                 return;
             }

@@ -96,7 +96,8 @@ pub fn path(text: &[u8], separator: &str, keywords_too: bool) -> String {
     }
 }
 
-/// A text in quotes. Bytes that are no printable UTF-8 are written `\xC3`, long runs of one character `a\{255}`.
+/// A text in quotes. Bytes that are no UTF-8, and characters that nobody sees, are written `\xC3`, long runs of one
+/// character `a\{255}`.
 pub fn quoted(text: &[u8], quote: char) -> String {
     let mut out = String::from(quote);
     for chunk in text.utf8_chunks() {
@@ -104,7 +105,9 @@ pub fn quoted(text: &[u8], quote: char) -> String {
         while let Some(c) = rest.chars().next() {
             let run = prefix(rest, |other| other == c);
             let count = run / c.len_utf8();
-            let shown = if count < LONG_RUN { count } else { 1 };
+            // Of what is written byte by byte the length would be that of its last byte.
+            let is_long = count >= LONG_RUN && (is_visible(c) || c.is_ascii());
+            let shown = if is_long { 1 } else { count };
             (0..shown).for_each(|_| out.push_str(&escaped(c, quote)));
             if shown < count {
                 out.push_str(&format!("\\{{{count}}}"));
@@ -121,9 +124,15 @@ fn escaped(c: char, quote: char) -> String {
     match c {
         '\\' => "\\\\".to_string(),
         _ if c == quote => format!("\\{c}"),
-        '\0'..='\x1F' | '\x7F' => format!("\\x{:02X}", c as u32),
-        _ => c.to_string(),
+        _ if is_visible(c) => c.to_string(),
+        _ => c.to_string().bytes().map(|byte| format!("\\x{byte:02X}")).collect(),
     }
+}
+
+/// Whether a reader sees the character: neither a control nor a soft hyphen nor a blank other than the usual one.
+fn is_visible(c: char) -> bool {
+    // A mark that belongs to the letter before it is seen there.
+    format!("x{c}").escape_debug().last() == Some(c)
 }
 
 #[cfg(test)]
@@ -146,6 +155,11 @@ mod tests {
         assert_eq!(quoted(b"\xC3\x28\x00", '"'), r#""\xC3(\x00""#);
         assert_eq!(quoted(&[b'a'; 255], '"'), r#""a\{255}""#);
         assert_eq!(quoted("üü".as_bytes(), '\''), "'üü'");
+        assert_eq!(
+            quoted("a\u{AD}\u{85} \u{A0}e\u{301}".as_bytes(), '\''),
+            "'a\\xC2\\xAD\\xC2\\x85 \\xC2\\xA0e\u{301}'"
+        );
+        assert_eq!(quoted("\u{AD}".repeat(20).as_bytes(), '"'), format!("\"{}\"", r"\xC2\xAD".repeat(20)));
     }
 
     #[test]

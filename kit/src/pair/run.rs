@@ -4,6 +4,7 @@ use super::cases::{Cases, Common, Origin};
 use super::difference::{Compared, Difference, difference};
 use super::process::{Failure, Outcome, Process};
 use super::progress::Progress;
+use super::shape::Shape;
 use super::shrink::{Effort, Shrunk, shrink};
 use crate::archive::Expander;
 use crate::reading;
@@ -72,8 +73,10 @@ pub fn pair(plan: &Plan) -> Result<Result<Pairing, NoHello>, String> {
     for i in 0..2 {
         match both[i].hello() {
             Ok(hello) => hellos[i] = hello,
-            Err(failure) if failure.is_missing() => return Err(format!("{}: {failure}", plan.commands[i])),
-            Err(failure) => return Ok(Err((i, failure))),
+            Err(failure) => match failure.missing() {
+                Some(said) => return Err(format!("{} cannot be started: {said}", ["A", "B"][i])),
+                None => return Ok(Err((i, failure))),
+            },
         }
     }
     let common = Common::of(&hellos, plan.only.as_deref());
@@ -83,13 +86,13 @@ pub fn pair(plan: &Plan) -> Result<Result<Pairing, NoHello>, String> {
     let mut heads = Heads { both, common, expander: Expander::default() };
     let mut cases = Cases::new(&plan.corpora, plan.seed, plan.from, plan.cases, &heads.common)?;
     let mut progress = Progress::new(cases.left(), plan.quiet);
-    let Watched { ran, left_out, differing } = heads.watch(&mut cases, &mut progress);
+    let Watched { ran, left_out, under_way, seen } = heads.watch(&mut cases, &mut progress);
     let time = progress.end();
-    if differing.is_empty() {
-        return Ok(Ok(Pairing { hellos, ran, left_out, time, found: None }));
-    }
-    let (behind, alone) = heads.culprit(&differing)?;
-    let found = heads.examine(plan, &differing[behind], alone)?;
+    let Some(seen) = seen else { return Ok(Ok(Pairing { hellos, ran, left_out, time, found: None })) };
+    let culprit = heads.culprit(&under_way)?;
+    let alone = culprit.map(|i| heads.examine(&under_way[i], plan.shrinks)).transpose()?.flatten();
+    let behind = culprit.filter(|_| alone.is_some()).unwrap_or(0);
+    let found = alone.unwrap_or_else(|| heads.as_found(&under_way[0], seen));
     Ok(Ok(Pairing { hellos, ran: ran + behind as u64 + 1, left_out, time, found: Some(found) }))
 }
 
@@ -97,15 +100,16 @@ pub fn pair(plan: &Plan) -> Result<Result<Pairing, NoHello>, String> {
 struct Watched {
     ran: u64,
     left_out: u64,
-    /// The case whose answers differ and those that were under way behind it.
-    differing: VecDeque<(Origin, Case)>,
+    /// The case whose answers differ, those that were under way behind it, and the answers.
+    under_way: VecDeque<(Origin, Case)>,
+    seen: Option<[Outcome; 2]>,
 }
 
 impl Heads {
     /// Runs the cases, several under way at a time, up to the first difference.
     fn watch(&mut self, cases: &mut Cases, progress: &mut Progress) -> Watched {
         let mut under_way: VecDeque<(Origin, Case)> = VecDeque::new();
-        let mut watched = Watched { ran: 0, left_out: 0, differing: VecDeque::new() };
+        let mut watched = Watched { ran: 0, left_out: 0, under_way: VecDeque::new(), seen: None };
         loop {
             while under_way.len() < WINDOW
                 && let Some((origin, case)) = cases.next()
@@ -128,8 +132,7 @@ impl Heads {
             }
             let outcomes = [0, 1].map(|i| self.both[i].receive());
             if self.differ(&outcomes).is_some() {
-                watched.differing = under_way;
-                return watched;
+                return Watched { under_way, seen: Some(outcomes), ..watched };
             }
             under_way.pop_front();
             watched.ran += 1;
@@ -153,38 +156,56 @@ impl Heads {
         Ok(Some([self.both[0].ask(&first)?, self.both[1].ask(&second)?]))
     }
 
+    /// A smaller case may be one of another operation: of those that both have.
     fn differ_on(&mut self, case: &Case) -> Result<Option<Difference>, String> {
+        if !self.common.operations.contains(&case.operation) {
+            return Ok(None);
+        }
+        let difference = self.ask(case)?.and_then(|outcomes| self.differ(&outcomes));
+        if difference != Some(Difference::Failure) {
+            return Ok(difference);
+        }
+        // A head that failed was started again. If it fails for this case alone, it does so once more.
         Ok(self.ask(case)?.and_then(|outcomes| self.differ(&outcomes)))
     }
 
-    /// Which of the cases shows a difference by itself, and whether one does. A head that dies or hangs may have kept
-    /// back the answers to earlier ones.
-    fn culprit(&mut self, cases: &VecDeque<(Origin, Case)>) -> Result<(usize, bool), String> {
-        self.both.iter_mut().try_for_each(Process::restart)?;
+    /// Which of the cases shows a difference by itself, asked of heads that were asked nothing before, if one does. A
+    /// head that dies or hangs may have kept back the answers to earlier ones.
+    fn culprit(&mut self, cases: &VecDeque<(Origin, Case)>) -> Result<Option<usize>, String> {
         for (i, (_, case)) in cases.iter().enumerate() {
+            self.both.iter_mut().try_for_each(Process::restart)?;
             if self.differ_on(case)?.is_some() {
-                return Ok((i, true));
+                return Ok(Some(i));
             }
         }
-        Ok((0, false))
+        Ok(None)
     }
 
-    /// The difference as small as it can be made, if it shows by itself.
-    fn examine(&mut self, plan: &Plan, (origin, case): &(Origin, Case), alone: bool) -> Result<Found, String> {
-        let first = self.ask(case)?.expect("both took it before");
-        let hangs = first.iter().any(|outcome| matches!(outcome, Err(Failure::Hangs(_))));
-        if hangs {
+    /// The difference as small as it can be made, if it is to be; nothing if it does not show any more in the end.
+    fn examine(&mut self, (origin, case): &(Origin, Case), shrinks: bool) -> Result<Option<Found>, String> {
+        let hangs = |outcome: &Outcome| matches!(outcome, Err(Failure::Hangs(_)));
+        let mut effort = EFFORT;
+        if self.ask(case)?.is_some_and(|outcomes| outcomes.iter().any(hangs)) {
             self.both.iter_mut().for_each(|head| head.timeout = head.timeout.min(Duration::from_millis(300)));
+            effort = EFFORT_IF_HUNG;
         }
-        let effort = match (alone && plan.shrinks, hangs) {
-            (false, _) => Effort { tries: 0, time: Duration::ZERO },
-            (true, false) => EFFORT,
-            (true, true) => EFFORT_IF_HUNG,
-        };
+        if !shrinks {
+            effort = Effort { tries: 0, time: Duration::ZERO };
+        }
         let smallest = shrink(case, effort, &mut |case| Ok(self.differ_on(case)?.is_some()))?;
-        let outcomes = self.ask(&smallest.shape.case())?.unwrap_or(first);
-        let difference = self.differ(&outcomes).unwrap_or(Difference::Failure);
-        Ok(Found { origin: origin.clone(), case: case.clone(), smallest, outcomes, difference, needs_history: !alone })
+        let Some(outcomes) = self.ask(&smallest.shape.case())? else { return Ok(None) };
+        let found = |difference| {
+            let (origin, case) = (origin.clone(), case.clone());
+            Found { origin, case, smallest, outcomes: outcomes.clone(), difference, needs_history: false }
+        };
+        Ok(self.differ(&outcomes).map(found))
+    }
+
+    /// The difference as it was seen, where it does not show by itself.
+    fn as_found(&self, (origin, case): &(Origin, Case), seen: [Outcome; 2]) -> Found {
+        let smallest = Shrunk { shape: Shape::of(case), tries: 0 };
+        let difference = self.differ(&seen).unwrap_or(Difference::Failure);
+        Found { origin: origin.clone(), case: case.clone(), smallest, outcomes: seen, difference, needs_history: true }
     }
 }
 

@@ -2,7 +2,7 @@
 
 use crate::notation::{self, Rule, Spans};
 use crate::reading;
-use differential::case::{COUNTS, Case};
+use differential::case::{COUNTS, Case, Operation};
 use differential::tape::{self, Node, Sort};
 
 #[derive(Clone, Debug, PartialEq, Eq)]
@@ -14,13 +14,10 @@ pub enum Part {
 
 #[derive(Clone, Debug, PartialEq, Eq)]
 pub struct Shape {
-    /// The case, whose tapes are those of `parts`.
+    /// What is asked of the parts. They are its tapes, whatever it has itself.
     pub case: Case,
     pub parts: Vec<Part>,
 }
-
-/// What makes one case smaller than another: fewer entries, then a shorter text.
-pub type Cost = (usize, usize);
 
 impl Shape {
     pub fn of(case: &Case) -> Shape {
@@ -55,8 +52,37 @@ impl Shape {
         self.parts.iter().map(entries).collect()
     }
 
-    pub fn cost(&self) -> Cost {
-        (self.entries(), self.text().len())
+    pub fn largest(&self) -> usize {
+        self.each_entries().into_iter().max().unwrap_or(0)
+    }
+
+    /// How many of its parts are no trees.
+    pub fn unreadable(&self) -> usize {
+        self.parts.iter().filter(|part| part.tree().is_none()).count()
+    }
+
+    /// The same with another tree for one of its parts.
+    pub fn with(&self, part: usize, tree: Node) -> Shape {
+        let mut shape = self.clone();
+        shape.parts[part] = Part::Tree(tree);
+        shape
+    }
+
+    /// The same with each of its trees edited.
+    pub fn edited(&self, mut edit: impl FnMut(&mut Node)) -> Shape {
+        let mut shape = self.clone();
+        for part in &mut shape.parts {
+            if let Part::Tree(tree) = part {
+                edit(tree);
+            }
+        }
+        shape
+    }
+
+    /// An operation asked of trees, with the usual buffers and counts.
+    pub fn asking(operation: Operation, limit: u32, trees: Vec<Node>) -> Shape {
+        let limit = if operation.charges() { limit } else { 0 };
+        Shape { case: Case::new(operation, limit, vec![]), parts: trees.into_iter().map(Part::Tree).collect() }
     }
 
     /// What is asked, as text: limit, file number, macros and condition, or whatever else the tapes hold.

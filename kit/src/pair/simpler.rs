@@ -1,6 +1,7 @@
 //! Simpler trees for a place of a tree: fewer entries, or as many that are easier to look at.
 
-use differential::tape::{self, LARGEST_LITERAL, Measure, Node, Sort, Value};
+use super::plain::{self, holding, tp, wildcard};
+use differential::tape::{self, LARGEST_TEXT, Node, Sort, Value};
 
 /// A node's place: which child, of which child, of the root.
 pub type Path = Vec<usize>;
@@ -40,45 +41,32 @@ pub fn replaced(root: &Node, path: &[usize], by: Node) -> Node {
     tree
 }
 
-/// What could stand in a node's place: the smallest tree of its sort, trees of that sort inside it, and plain trees that
-/// are as large as it is, in case the size is what matters.
+/// What could stand in a node's place: the smallest tree of its sort, trees inside it, the least trees with a text of it,
+/// and plain trees that are as large as it is, in case the size is what matters.
 pub fn instead(node: &Node, sort: Sort) -> Vec<Node> {
     let mut found: Vec<Node> = smallest(node, sort);
     found.extend(inside(node, sort));
-    found.extend(as_large(node, sort));
+    found.extend(calls_and_sigils(node, sort));
+    found.extend(across(node, sort));
+    found.extend(around_texts(node, sort));
+    found.extend(plain::as_large(node, sort));
     found.extend(shorter_lists(node, sort));
     found.extend(other_values(node));
     found.retain(|other| other != node);
     found
 }
 
-fn tp() -> Node {
-    Node::new(10, 0, vec![Node::with_text(43, b"q")])
-}
-
-fn predicate() -> Node {
-    let [action, kind] = [&b"P"[..], b""].map(|text| Node::with_text(40, text));
-    let none = || Node::counted(41, 1, vec![]);
-    Node::new(7, 0, vec![Node::new(42, 0, vec![]), none(), action, kind, none()])
-}
-
-fn wildcard() -> Node {
-    Node::new(28, 0, vec![])
-}
-
 fn smallest(node: &Node, sort: Sort) -> Vec<Node> {
+    let (wildcard, sigil) = (wildcard(), Node::with_text(32, b"y"));
     match sort {
-        Sort::Condition => vec![tp(), predicate()],
-        Sort::Term => vec![wildcard(), Node::with_text(27, b"x"), Node::with_text(32, b"y")],
-        Sort::Aggregate => vec![Node::new(35, 0, vec![Node::counted(41, 2, vec![]), tp()])],
+        Sort::Condition => vec![tp(), plain::predicate()],
+        Sort::Term => vec![wildcard, Node::with_text(27, b"x"), sigil],
+        Sort::Aggregate => plain::counting(tp()).children,
         Sort::Slot => vec![Node::with_text(43, b"q")],
         Sort::Type => vec![Node::new(46, 0, vec![])],
         Sort::Within | Sort::Interval => vec![Node::new(50, 1, vec![])],
-        Sort::Argument => {
-            let [wildcard, sigil] = [wildcard(), Node::with_text(32, b"y")].map(|term| Node::new(56, 0, vec![term]));
-            vec![wildcard, sigil, Node::new(55, 0, vec![tp()])]
-        }
-        Sort::Body => vec![Node::new(62, 0, vec![tp()]), Node::new(63, 0, vec![wildcard()])],
+        Sort::Argument => vec![holding(56, wildcard), holding(56, sigil), holding(55, tp())],
+        Sort::Body => vec![Node::new(61, 0, vec![]), holding(62, tp()), holding(63, wildcard)],
         Sort::Any if matches!(node.code, 1..=13) => smallest(node, Sort::Condition),
         Sort::Any if matches!(node.code, 20..=33) => smallest(node, Sort::Term),
         _ => vec![],
@@ -88,16 +76,33 @@ fn smallest(node: &Node, sort: Sort) -> Vec<Node> {
 /// So many trees inside one are tried in its place, the outermost first.
 const INSIDE: usize = 12;
 
-fn inside(node: &Node, sort: Sort) -> Vec<Node> {
-    let same = |(path, of): &(Path, Sort)| !path.is_empty() && *of == sort;
-    let mut paths: Vec<Path> = places(node, sort).into_iter().filter(same).map(|(path, _)| path).collect();
+/// The trees of one sort inside a node of another.
+fn of_sort(node: &Node, sort: Sort, wanted: Sort) -> impl Iterator<Item = Node> {
+    let is_wanted = |(path, of): &(Path, Sort)| !path.is_empty() && *of == wanted;
+    let mut paths: Vec<Path> = places(node, sort).into_iter().filter(is_wanted).map(|(path, _)| path).collect();
     paths.sort_by_key(Vec::len);
-    let mut found: Vec<Node> = paths.iter().take(INSIDE).map(|path| at(node, path).clone()).collect();
-    // A call or a sigil inside it can stand there by itself, whatever it was part of.
+    paths.into_iter().take(INSIDE).map(|path| at(node, &path).clone())
+}
+
+fn inside(node: &Node, sort: Sort) -> Vec<Node> {
+    match sort {
+        Sort::Any => [Sort::Definition, Sort::Condition, Sort::Term, Sort::Call]
+            .into_iter()
+            .flat_map(|wanted| of_sort(node, sort, wanted))
+            .collect(),
+        _ => of_sort(node, sort, sort).collect(),
+    }
+}
+
+/// A call or a sigil inside it can stand there by itself, whatever it was part of.
+fn calls_and_sigils(node: &Node, sort: Sort) -> Vec<Node> {
     let tp = |code: u8, name: &[u8]| Node::new(10, 0, vec![Node::with_text(code, name)]);
+    let mut found = Vec::new();
     node.visit(&mut |part| match (part.code, sort) {
-        (54, Sort::Condition) => found.push(Node::new(11, 0, vec![part.clone()])),
-        (54, Sort::Term) => found.push(Node::new(30, 0, vec![Node::new(36, 0, vec![part.clone()])])),
+        (54, Sort::Condition) => found.push(plain::called(part.clone())),
+        (54, Sort::Term) => found.push(plain::called_for_value(part.clone())),
+        // A bare call is shorter as an argument, whichever macro it is of.
+        (54, Sort::Argument) => found.push(holding(55, plain::called(part.clone()))),
         (33 | 45, Sort::Condition) => found.push(tp(45, &part.text)),
         (32 | 44, Sort::Condition) => found.push(tp(44, &part.text)),
         _ => {}
@@ -105,61 +110,73 @@ fn inside(node: &Node, sort: Sort) -> Vec<Node> {
     found
 }
 
-/// A tree this small is not made plain.
-const SMALL: usize = 12;
-
-/// Plain trees with as much nesting, text, or entries.
-fn as_large(node: &Node, sort: Sort) -> Vec<Node> {
-    let Measure { entries, nesting, text, .. } = tape::measure(node);
-    if entries <= SMALL {
-        return vec![];
-    }
-    // Beside the condition a definition has entries and a name of its own.
-    let conditions = |others: usize, name: usize| {
-        [negations(nesting), equal(texts(text.saturating_sub(name))), equal(array(entries - others - 3))]
-    };
-    match sort {
-        Sort::Condition => conditions(0, 0).to_vec(),
-        Sort::Term => vec![arrays(nesting), texts(text), array(entries)],
-        Sort::Call => vec![call(texts(text.saturating_sub(1))), call(array(entries - 4))],
-        Sort::Definition => conditions(4, 1).map(definition).to_vec(),
-        Sort::Definitions => conditions(5, 1).map(|body| Node::counted(41, 1, vec![definition(body)])).to_vec(),
+/// Terms inside a condition and conditions inside a term, each in the least that can hold it there. What matters may be
+/// in a term, whatever condition stands around it, and the other way round.
+fn across(node: &Node, sort: Sort) -> Vec<Node> {
+    let conditions = || of_sort(node, sort, Sort::Condition);
+    let terms = || of_sort(node, sort, Sort::Term);
+    match (sort, node.code) {
+        (Sort::Condition, _) => terms().map(plain::equal).chain(both(conditions())).collect(),
+        (Sort::Term, _) => conditions().map(plain::counting).collect(),
+        (Sort::Argument, 55) => terms().map(|term| holding(56, term)).collect(),
+        (Sort::Argument, 56) => conditions().map(|condition| holding(55, condition)).collect(),
+        (Sort::Body, 62) => terms().map(|term| holding(63, term)).collect(),
+        (Sort::Body, 63) => conditions().map(|condition| holding(62, condition)).collect(),
         _ => vec![],
     }
 }
 
-/// An array with so many entries.
-fn array(entries: usize) -> Node {
-    Node::counted(29, 1, vec![wildcard(); entries - 1])
+/// Two of the outermost conditions, joined: both may matter, and what holds them not.
+fn both(conditions: impl Iterator<Item = Node>) -> Vec<Node> {
+    let outermost: Vec<Node> = conditions.take(4).collect();
+    let pairs = (0..outermost.len()).flat_map(|second| (0..second).map(move |first| [first, second]));
+    pairs.map(|two| Node::new(1, 0, two.map(|i| outermost[i].clone()).to_vec())).collect()
 }
 
-/// Strings with so many bytes together.
-fn texts(bytes: usize) -> Node {
-    let lengths = (0..bytes).step_by(LARGEST_LITERAL).map(|at| (bytes - at).min(LARGEST_LITERAL));
-    Node::counted(29, 1, lengths.map(|length| Node::with_text(23, &vec![b'a'; length])).collect())
+/// The least trees with one text of a node, or with two that stand side by side. A text can be wrong by its length or its
+/// bytes, and one that is no UTF-8 by itself can be taken for right with the one behind it. Of others nothing depends.
+fn around_texts(node: &Node, sort: Sort) -> Vec<Node> {
+    let mut texts: Vec<&[u8]> = Vec::new();
+    node.visit(&mut |part| {
+        // Between two texts an empty one is none.
+        if tape::value(part.code) == Value::TextLength && !part.text.is_empty() {
+            texts.push(&part.text);
+        }
+    });
+    let is_odd = |text: &[u8]| text.len() >= LARGEST_TEXT || !text.is_ascii();
+    let is_broken = |text: &[u8]| std::str::from_utf8(text).is_err();
+    let alone = texts.iter().filter(|text| is_odd(text)).filter_map(|text| with_text(text, sort));
+    let beside = texts.windows(2).filter(|two| two.iter().any(|text| is_broken(text)));
+    let beside = beside.filter_map(|two| with_texts(two[0], two[1], sort));
+    alone.take(INSIDE).chain(beside.take(INSIDE)).collect()
 }
 
-/// A condition, and a term, that nest so deep.
-fn negations(nesting: usize) -> Node {
-    (1..nesting).fold(tp(), |inner, _| Node::new(3, 0, vec![inner]))
+fn with_text(text: &[u8], sort: Sort) -> Option<Node> {
+    let variable = || Node::with_text(27, text);
+    Some(match sort {
+        Sort::Condition => Node::new(10, 0, vec![Node::with_text(43, text)]),
+        Sort::Term => variable(),
+        Sort::Argument => holding(56, variable()),
+        Sort::Body => holding(63, variable()),
+        Sort::Call => plain::call(text, vec![]),
+        Sort::Definition => plain::cedar(text, &[]),
+        Sort::Definitions => plain::registry(vec![plain::cedar(text, &[])]),
+        _ => return None,
+    })
 }
 
-fn arrays(nesting: usize) -> Node {
-    (1..nesting).fold(wildcard(), |inner, _| Node::counted(29, 1, vec![inner]))
-}
-
-fn equal(array: Node) -> Node {
-    Node::new(8, 0, vec![Node::new(53, 4, vec![]), wildcard(), array])
-}
-
-fn call(argument: Node) -> Node {
-    let arguments = Node::counted(41, 1, vec![Node::new(56, 0, vec![argument])]);
-    Node::new(54, 0, vec![Node::with_text(40, b"m"), arguments])
-}
-
-fn definition(body: Node) -> Node {
-    let parts = vec![Node::with_text(40, b"m"), Node::counted(41, 2, vec![]), Node::new(62, 0, vec![body])];
-    Node::new(60, 0, parts)
+fn with_texts(first: &[u8], second: &[u8], sort: Sort) -> Option<Node> {
+    let entity = || Node::new(20, 0, [first, second].map(|text| Node::with_text(40, text)).to_vec());
+    Some(match sort {
+        Sort::Condition => plain::equal(entity()),
+        Sort::Term => entity(),
+        Sort::Argument => holding(56, entity()),
+        Sort::Body => holding(63, entity()),
+        Sort::Call => plain::call(first, vec![holding(56, Node::with_text(27, second))]),
+        Sort::Definition => plain::cedar(first, &[second]),
+        Sort::Definitions => plain::registry(vec![plain::cedar(first, &[second])]),
+        _ => return None,
+    })
 }
 
 /// A list without some of its items: all of them, halves, and so on down to single ones.
@@ -174,7 +191,11 @@ fn shorter_lists(node: &Node, sort: Sort) -> Vec<Node> {
     while chunk > 0 {
         for start in (0..items.len()).step_by(chunk) {
             let kept = [&items[..start], &items[(start + chunk).min(items.len())..]].concat().concat();
-            found.push(Node::counted(node.code, width, kept));
+            let list = Node::counted(node.code, width, kept);
+            // Of equal items it does not matter which of them go.
+            if found.last() != Some(&list) {
+                found.push(list);
+            }
         }
         // Of long lists single items are tried only once halves of halves are gone.
         chunk = if chunk > 64 { chunk / 4 } else { chunk / 2 };
