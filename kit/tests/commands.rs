@@ -142,10 +142,12 @@ fn what_does_not_answer_is_a_finding() {
     assert!(status == 1 && text.contains("hangs: no answer within 1 s"), "{text}");
 }
 
-/// A head that ends after so many bytes, whatever it was asked: no case shows that by itself.
+/// A head that ends after so many bytes, whatever it was asked: no case shows that by itself. Its shell ends only when the
+/// server behind it has noticed, so it is seen to die or not to answer, whichever comes first.
 #[test]
 fn what_depends_on_earlier_requests_is_said() {
     let head = format!("sh -c '{} serve --model | dd bs=1 count=20000 2>/dev/null'", env!("CARGO_BIN_EXE_kit"));
     let (status, text) = kit(&["pair", "model", &head, "--quiet", "--cases", "2000"]);
-    assert!(status == 1 && text.contains("what was asked before it matters") && text.contains("B: dies"), "{text}");
+    assert!(status == 1 && text.contains("what was asked before it matters"), "{text}");
+    assert!(text.contains("B: dies") || text.contains("B: hangs"), "{text}");
 }
