@@ -68,22 +68,19 @@ fn has_room(size: usize, out: Writer, entries: usize, bytes: usize) -> bool
     if out.overflowed {
         return false;
     }
-    if !has_area(size, base) {
-        return false;
-    }
     if n > 1024 {
-        return false;
-    }
-    if t > 3072 {
         return false;
     }
     if entries > 1024 - n {
         return false;
     }
+    if t > 3072 {
+        return false;
+    }
     if bytes > 3072 - t {
         return false;
     }
-    true
+    has_area(size, base)
 }
 
 // Writes the codes and values of entries whose text, of `bytes` bytes, stands there already.
@@ -116,13 +113,10 @@ fn write_run(s: &mut [u8], out: Writer, codes: &[u8], values: &[u8], text: &[u8]
 fn has_run_room(size: usize, out: Writer, codes: usize, values: usize, text: usize) -> bool
     ensures { λ r. ⌜ Decides (RoomFor size out codes text × (values ≡ 8 * codes)) r ⌝ }
 {
-    if values / 8 != codes {
-        return false;
+    if has_room(size, out, codes, text) {
+        return values == 8 * codes;
     }
-    if values % 8 != 0 {
-        return false;
-    }
-    has_room(size, out, codes, text)
+    false
 }
 
 // Appends a run of entries, given as the three parts of a tape that spell it.

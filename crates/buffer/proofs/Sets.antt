@@ -2,10 +2,13 @@
 -- Assumes nothing.
 use mathlib.Core.Path.{_≡_, refl, sym, ap, _∙_}
 use mathlib.Core.List.{List, [], _∷_, _++_}
-use Prim.Native.Nat.{ℕ, suc, _+_, _≤_, _<_}
+use mathlib.Core.Bool.{Bool, true, false}
+use Prim.Native.Nat.{ℕ, suc, _+_, _-_, _≤_, _<_, min}
 use native.Mathlib.Nat.{zero-add, add-zero, add-suc, suc-add}
 use native.Mathlib.Omega.{arith}
 use native.Mathlib.Numerals.{add-one}
+use borrow.Author.Tests.{leb-true, leb-false}
+use lib.Dec.{leb}
 use lib.ListN.{length, take, drop, set, getD, length-set, drop-of-length-le}
 use lib.Seq.{sets, set-out, set-append-left, drop-cons, take-set-le, drop-set-lt}
 
@@ -55,3 +58,11 @@ sets-turn s i vs j h = rw (add-one, add-one, drop-cons vs j 0)
 
 pub sets-end : (s : List ℕ) (i : ℕ) (vs : List ℕ) (j : ℕ) → length vs ≤ j → sets s i (drop j vs) ≡ s
 sets-end s i vs j h = rw (drop-of-length-le vs h)
+
+-- it ends where vs does, or s
+pub sets-stop : (s : List ℕ) (at : ℕ) (vs : List ℕ) (j : ℕ) → min (length s - at) (length vs) ≤ j → sets s (at + j) (drop j vs) ≡ s
+sets-stop s at vs j h = go (leb (length vs) j) refl
+  where
+    go : (b : Bool) → leb (length vs) j ≡ b → sets s (at + j) (drop j vs) ≡ s
+    go true e = sets-end s (at + j) vs j (leb-true (length vs) j e)
+    go false e = sets-out s (at + j) (drop j vs) (omega (arith, h, leb-false (length vs) j e))

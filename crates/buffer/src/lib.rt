@@ -13,15 +13,26 @@ ghost use Rattle.definition.specs.Text.{decimal};
 ghost use Rattle.definition.specs.Answers.{padded};
 ghost use Rattle.buffer.specs.Buffer.{zeroed, messageIn, writeIn};
 
-// Writes `piece` into `s` from `at` on, as far as `s` reaches.
+pub fn lesser(a: usize, b: usize) -> usize
+    ensures { λ r. ⌜ r ≡ min a b ⌝ }
+{
+    if a <= b {
+        return a;
+    }
+    b
+}
+
+// Writes `piece` into `s` from `at` on, as far as `s` reaches. The loop has one end, so that the compiler writes many bytes at once.
 pub fn write(s: &mut [u8], at: usize, piece: &[u8])
     ensures { λ _. ⌜ now (s .exit) ≡ sets (now (s .entry)) at (now (piece .entry)) ⌝ }
 {
-    let mut i = at;
+    if s.len() <= at {
+        return;
+    }
+    let n = lesser(s.len() - at, piece.len());
     let mut j = 0;
-    while i < s.len() && j < piece.len() {
-        s[i] = piece[j];
-        i += 1;
+    while j < n {
+        s[at + j] = piece[j];
         j += 1;
     }
 }

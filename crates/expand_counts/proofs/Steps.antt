@@ -1,27 +1,30 @@
 -- One law for each way a function of the crate returns, from what the code learnt to the definition that the contract cites.
 -- Assumes nothing.
-use Prim.Native.Nat.{ℕ, suc, _+_, _*_, _-_, _/_, _%_, _≤_, _<_, min}
+use Prim.Native.Nat.{ℕ, zero, suc, _+_, _*_, _-_, _/_, _%_, _≤_, _<_, min}
 use native.Mathlib.Omega.{arith}
 use native.Mathlib.Nat.{sub-zero, add-zero}
 use native.Mathlib.Numerals.{add-one}
 use mathlib.Core.Path.{_≡_, refl, sym, ap, _∙_}
 use mathlib.Core.Logic.{_⊎_, inl, inr, ⊎-elim}
 use mathlib.Core.List.{List, [], _∷_, _++_, append-nil}
-use mathlib.Core.Bool.{Bool, true, false, _||_}
+use mathlib.Core.Bool.{Bool, true, false}
 use lib.Dec.{leb, eqb}
 use lib.ListN.{length, take, drop, getD, set, length-drop, take-append-drop, drop-of-length-le}
 use lib.Seq.{take-all, drop-cons, drop-drop, getD-drop, append-snoc, take-suc-set, drop-set-lt, set-getD}
 use borrow.Author.Tests.{leb-true, leb-false, lt-leb, le-leb, eq-eqb, ne-eqb}
 use Rattle.format.specs.Entry.{Text}
-use Rattle.format.specs.Macro.{isCode}
+use Rattle.format.specs.Limits.{weigh}
+use Rattle.format.specs.Stands.{part}
+use Rattle.format.proofs.Stands.{part-cons}
 use Rattle.format.specs.Tape.{isText, textWidth}
 use Rattle.definition.specs.Text.{eqText}
 use Rattle.tape.specs.Pick.{pick}
-use Rattle.tape.specs.Layouts.{holds, codeAt, valueAt, onward}
+use Rattle.tape.specs.Flat.{sumOf, weightOf}
+use Rattle.tape.specs.Layouts.{holds, codeAt, valueAt, widthAt, onward}
 use Rattle.tape.specs.declared.layout.Layout.{Layout}
 use Rattle.tape.specs.declared.layout.Place.{Place}
 use Rattle.tape.proofs.Runs.{place}
-use Rattle.nodes.specs.Node.{byCode, expectAt, named, nameAt}
+use Rattle.nodes.specs.Node.{expectAt, named, nameAt}
 use Rattle.nodes.specs.declared.ValueRead.{ValueRead}
 use Rattle.nodes.specs.declared.ValueRead.the-variants.{Value, Nothing}
 use Rattle.registry.specs.Places.{Row, origin, keyOf, firstRow, rowsIn}
@@ -145,21 +148,6 @@ count-start reg d name places ks count = ap (λ (n : ℕ). raisedAt reg d (rowsI
 
 -- ------------------------------------------------------------------ one entry
 
--- the codes of entries with text
-abbrev pub textRows : (value : ℕ) → List ℕ → List (ℕ × ℕ)
-textRows value [] = []
-textRows value (c ∷ cs) = (c, value) ∷ textRows value cs
-
-pub by-text : (cs : List ℕ) (code value : ℕ) → byCode (textRows value cs) 0 code ≡ textWidth (isCode cs code) value
-unfolding isCode textWidth
-by-text [] code value = refl
-by-text (c ∷ cs) code value = go (eqb code c) (by-text cs code value)
-  where
-    go : (b : Bool) → byCode (textRows value cs) 0 code ≡ textWidth (isCode cs code) value
-        → pick b value (byCode (textRows value cs) 0 code) ≡ textWidth (b || isCode cs code) value
-    go true e = refl
-    go false e = e
-
 pub few-large : (v : ℕ) → 1024 < v → 0 ≡ few v
 few-large v h = rw (lt-leb v 1024 h)
 
@@ -227,3 +215,49 @@ module _ (reg : List ℕ) (d : Layout) (rows : List Row) (s : List ℕ) (l : Lay
   pub counted-not-held : {b : Bool} (ks : List ℕ) → b ≡ holds s l → b ≡ false → ks ≡ countedIn reg d rows s l ks
   unfolding countedIn
   counted-not-held ks e f = rw (← e, f)
+
+-- ------------------------------------------------------------------ a condition without a call
+
+weigh-none : (b : Bool) → weigh b ≡ 0 → b ≡ false
+unfolding weigh
+weigh-none true e = absurd (omega arith)
+weigh-none false e = refl
+
+module _ (reg : List ℕ) (d : Layout) (rows : List Row) (s : List ℕ) (l : Layout) where
+  stays : (p : Place) (w : Passing) (code : ℕ) (ks : List ℕ) → eqb code 54 ≡ false → countedAt reg d rows s l p w code ks ≡ ks
+  unfolding countedAt
+  stays p w code ks e = rw e (go (eqb (w .over) 0))
+    where
+      go : (b : Bool) → pick b ks ks ≡ ks
+      go true = refl
+      go false = refl
+
+  none-from : (n : ℕ) (p : Place) (w : Passing) (ks : List ℕ) → l .codes + p .at + n ≤ length s
+      → sumOf (weightOf 54) (part s (l .codes + p .at) n) ≡ 0 → countFrom reg d rows s l n p w ks ≡ ks
+  unfolding countFrom
+  none-from zero p w ks h e = refl
+  none-from (suc n) p w ks h e =
+      rw (stays p w (codeAt s l (p .at)) ks (weigh-none _ (omega (arith, sum))))
+      (go (leb (p .text + widthAt s l (p .at)) (l .size))
+      (none-from n next (passedAt s l p w (codeAt s l (p .at)) (valueAt s l (p .at))) ks (omega arith) rest))
+    where
+      sum : weightOf 54 (codeAt s l (p .at)) + sumOf (weightOf 54) (part s (l .codes + p .at + 1) n) ≡ 0
+      sum = sym (ap (sumOf (weightOf 54)) (part-cons s (l .codes + p .at) n (omega arith))) ∙ e
+
+      next : Place
+      next = onward p (widthAt s l (p .at))
+
+      rest : sumOf (weightOf 54) (part s (l .codes + next .at) n) ≡ 0
+      rest =
+          let q : l .codes + (p .at + 1) ≡ l .codes + p .at + 1 = omega arith in
+          rw q (omega (arith, sum))
+
+      go : (b : Bool) {ks′ : List ℕ} → ks′ ≡ ks → pick b ks′ ks ≡ ks
+      go true q = q
+      go false q = refl
+
+  pub counted-none : {b : Bool} (ks : List ℕ) → b ≡ holds s l → b ≡ true → l .codes + l .entries ≤ length s
+      → sumOf (weightOf 54) (part s (l .codes) (l .entries)) ≡ 0 → ks ≡ countedIn reg d rows s l ks
+  counted-none ks e t h z =
+      counted-held reg d rows s l ks e t
+      (sym (none-from (l .entries) origin (passing 0 0) ks (omega arith) (rw (add-zero (l .codes)) z)))

@@ -1,6 +1,8 @@
 // The calls of a condition that expansion enters, counted for the definitions that they name. One loop over the entries: a call is a
 // 54 that stands in no field and in no array of an operand. Those are passed over; of all else nothing but the code is looked at.
+use buffer::lesser;
 use grammar::codes::TERM;
+use grammar::kind::is_text;
 use nodes::Name;
 use nodes::ValueRead;
 use nodes::expect;
@@ -12,12 +14,14 @@ use tape::layout::Place;
 use tape::layout::code_at;
 use tape::layout::holds;
 use tape::layout::value_at;
+use tape::ors::count_in;
 use tape::scan::Skipped;
 use tape::scan::skip;
 ghost use mathlib.Core.Path.{_≡_};
 ghost use Prim.Native.Nat.{_+_, _-_, _*_, _≤_, _<_, min};
 ghost use lib.ListN.{length, drop, getD, set};
 ghost use Rattle.format.specs.Tape.{isText, textWidth};
+ghost use Rattle.tape.specs.Flat.{sumIn, weightOf};
 ghost use Rattle.tape.specs.Layouts.{Held};
 ghost use Rattle.registry.specs.Places.{firstRow, rowsIn, keyOf, origin};
 ghost use Rattle.expand_counts.specs.Counting.{nameBehindAt, isNamed, raised, raisedAt, passing, few, restOfTerm, overAt, broughtBy, passedAt, countedAt, countFrom, countedIn};
@@ -78,15 +82,6 @@ fn raise(counts: &mut [u32], i: usize)
     ensures { λ _. ⌜ now (counts .exit) ≡ set (now (counts .entry)) i (raised (getD (now (counts .entry)) i 0)) ⌝ }
 {
     counts[i] = one_more(counts[i]);
-}
-
-fn lesser(a: usize, b: usize) -> usize
-    ensures { λ r. ⌜ r ≡ min a b ⌝ }
-{
-    if a <= b {
-        return a;
-    }
-    b
 }
 
 fn fewest(a: usize, b: usize, c: usize) -> usize
@@ -220,27 +215,11 @@ fn take_entry(
     }
 }
 
-// How many bytes of text an entry takes: as `text_width`, by the code alone, which costs less here.
+// How many bytes of text an entry takes.
 fn width_of(code: u8, value: u64) -> u64
     ensures { λ r. ⌜ r ≡ textWidth (isText code) value ⌝ }
 {
-    match code {
-        22 => value,
-        23 => value,
-        27 => value,
-        32 => value,
-        33 => value,
-        40 => value,
-        43 => value,
-        44 => value,
-        45 => value,
-        52 => value,
-        58 => value,
-        59 => value,
-        72 => value,
-        74 => value,
-        _ => 0,
-    }
+    if is_text(code) { value } else { 0 }
 }
 
 // The calls among the entries, up to a text that runs past the end.
@@ -275,6 +254,16 @@ fn count_entries(
     }
 }
 
+// How many entries are a call. Where none is, nothing else is looked at.
+fn calls_in(s: &[u8], l: Layout) -> usize
+    requires { ⌜ Held (now s) l ⌝ }
+    ensures { λ r. ⌜ r ≡ sumIn (weightOf 54) (now (s .entry)) l ⌝ }
+{
+    let start = l.codes;
+    let end = start + l.entries;
+    count_in(&s[start..end], 54)
+}
+
 // The calls of a condition that expansion enters, each counted for the definitions of its name; `places` has the rows of a registry.
 pub fn count_calls(
     reg: &[u8],
@@ -288,6 +277,9 @@ pub fn count_calls(
     ensures { λ _. ⌜ now (counts .exit) ≡ countedIn (now (reg .entry)) d (rowsIn (now (places .entry)) count) (now (cond .entry)) c (now (counts .entry)) ⌝ }
 {
     if !holds(cond, c) {
+        return;
+    }
+    if calls_in(cond, c) == 0 {
         return;
     }
     count_entries(reg, d, places, count, cond, c, counts);

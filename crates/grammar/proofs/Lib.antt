@@ -2,6 +2,6 @@ pub mod Table
 pub mod Cells
 mod Entries
 pub mod Marks
-pub mod Leaves
+pub mod Depths
 pub mod ProviderMarks
 pub mod Counted

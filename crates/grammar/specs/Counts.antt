@@ -35,7 +35,6 @@ countMark Mark.isLong = 0
 countMark Mark.isName = 0
 countMark Mark.isNode = 0
 countMark Mark.isTwoMore = 0
-countMark Mark.isInner = 0
 countMark Mark.isCall = 0
 
 abbrev pub countMarks : List Mark → ℕ

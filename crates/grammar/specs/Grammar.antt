@@ -159,14 +159,13 @@ sorts =
     ∷ []
 
 -- what a scan asks of a code: whether its value is a text's length, of up to 255 bytes, or of a name's; whether it counts in nesting,
--- counts for two more in an input, and may have others in it that count; and whether it is a call
+-- and for two more in an input; and whether it is a call
 pub data Mark : Type 0 where
   isText : Mark
   isLong : Mark
   isName : Mark
   isNode : Mark
   isTwoMore : Mark
-  isInner : Mark
   isCall : Mark
 
 -- how many values an entry may have, from 0 on, or `any`; what follows it; and its marks
@@ -196,10 +195,6 @@ marked m r = record { values = r .values; follows = r .follows; marks = m ∷ r 
 abbrev pub node : Row → Row
 node r = marked Mark.isNode r
 
--- a node that may have nodes in it
-abbrev pub inner : Row → Row
-inner r = marked Mark.isInner (node r)
-
 abbrev pub long : Row → Row
 long r = marked Mark.isLong r
 
@@ -214,19 +209,19 @@ unused = row 1 []
 abbrev pub rows : List Row
 rows =
     unused
-    ∷ inner (row any (condition ∷ condition ∷ []))  -- 1 And
-    ∷ marked Mark.isTwoMore (inner (row any (condition ∷ condition ∷ [])))  -- 2 Or: a negation, a conjunction, a negation
-    ∷ inner (row any (condition ∷ []))  -- 3 Not
-    ∷ inner (row any (within ∷ condition ∷ []))  -- 4 Formerly
-    ∷ inner (row any (within ∷ condition ∷ []))  -- 5 Previous
-    ∷ inner (row any (condition ∷ within ∷ condition ∷ []))  -- 6 Since
-    ∷ inner (row any (span ∷ texts ∷ text ∷ text ∷ fields ∷ []))  -- 7 Predicate
-    ∷ inner (row any (operator ∷ term ∷ term ∷ []))  -- 8 Comparison
-    ∷ inner (row any (slot ∷ type ∷ condition ∷ []))  -- 9 Exists
-    ∷ inner (row any (slot ∷ []))  -- 10 Tp
-    ∷ inner (row any (call ∷ []))  -- 11 Call
-    ∷ inner (row any (sigil ∷ []))  -- 12 SigilRef
-    ∷ inner (row any (span ∷ condition ∷ fields ∷ []))  -- 13 Refine
+    ∷ node (row any (condition ∷ condition ∷ []))  -- 1 And
+    ∷ marked Mark.isTwoMore (node (row any (condition ∷ condition ∷ [])))  -- 2 Or: a negation, a conjunction, a negation
+    ∷ node (row any (condition ∷ []))  -- 3 Not
+    ∷ node (row any (within ∷ condition ∷ []))  -- 4 Formerly
+    ∷ node (row any (within ∷ condition ∷ []))  -- 5 Previous
+    ∷ node (row any (condition ∷ within ∷ condition ∷ []))  -- 6 Since
+    ∷ node (row any (span ∷ texts ∷ text ∷ text ∷ fields ∷ []))  -- 7 Predicate
+    ∷ node (row any (operator ∷ term ∷ term ∷ []))  -- 8 Comparison
+    ∷ node (row any (slot ∷ type ∷ condition ∷ []))  -- 9 Exists
+    ∷ node (row any (slot ∷ []))  -- 10 Tp
+    ∷ node (row any (call ∷ []))  -- 11 Call
+    ∷ node (row any (sigil ∷ []))  -- 12 SigilRef
+    ∷ node (row any (span ∷ condition ∷ fields ∷ []))  -- 13 Refine
     ∷ unused
     ∷ unused
     ∷ unused
@@ -242,14 +237,14 @@ rows =
     ∷ node (counts text)  -- 26 ScopeField
     ∷ node (name spelled)  -- 27 Var
     ∷ node (row 1 [])  -- 28 Wildcard
-    ∷ inner (counts term)  -- 29 Array
-    ∷ inner (row 1 (aggregate ∷ []))  -- 30 Agg
-    ∷ inner (row 3 (term ∷ term ∷ []))  -- 31 Arith
+    ∷ node (counts term)  -- 29 Array
+    ∷ node (row 1 (aggregate ∷ []))  -- 30 Agg
+    ∷ node (row 3 (term ∷ term ∷ []))  -- 31 Arith
     ∷ node spelled  -- 32 ParamRef
     ∷ node spelled  -- 33 BinderRef
-    ∷ inner (row any (slot ∷ bindings ∷ condition ∷ []))  -- 34 Sum
-    ∷ inner (row any (bindings ∷ condition ∷ []))  -- 35 Count
-    ∷ inner (row any (call ∷ []))  -- 36 aggregate Call
+    ∷ node (row any (slot ∷ bindings ∷ condition ∷ []))  -- 34 Sum
+    ∷ node (row any (bindings ∷ condition ∷ []))  -- 35 Count
+    ∷ node (row any (call ∷ []))  -- 36 aggregate Call
     ∷ unused
     ∷ unused
     ∷ unused

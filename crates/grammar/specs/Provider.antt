@@ -3,7 +3,7 @@
 use Prim.Native.Nat.{ℕ}
 use mathlib.Core.List.{List, [], _∷_, _++_, map}
 use lib.ListN.{take}
-use Rattle.grammar.specs.Grammar.{once, Sort, codes, listOf, noSort, Mark, Row, any, row, counts, spelled, node, inner, long, rows as temporalRows}
+use Rattle.grammar.specs.Grammar.{once, Sort, codes, listOf, noSort, Mark, Row, any, row, counts, spelled, node, long, rows as temporalRows}
 
 -- the sorts: a root is a call or an argument
 abbrev pub root : ℕ
@@ -36,7 +36,6 @@ textual (Mark.isLong ∷ ms) = Mark.isLong ∷ textual ms
 textual (Mark.isName ∷ ms) = textual ms
 textual (Mark.isNode ∷ ms) = textual ms
 textual (Mark.isTwoMore ∷ ms) = textual ms
-textual (Mark.isInner ∷ ms) = textual ms
 textual (Mark.isCall ∷ ms) = textual ms
 
 abbrev leaf : Row → Row
@@ -52,5 +51,5 @@ rows =
     ∷ node (row any [])  -- 73 Integer
     ∷ node (long spelled)  -- 74 Decimal
     ∷ node (row 2 [])  -- 75 Bool
-    ∷ inner (counts argument)  -- 76 Set
+    ∷ node (counts argument)  -- 76 Set
     ∷ [])

@@ -37,7 +37,6 @@ markWord Mark.isName = 0x800000000
 markWord Mark.isNode = 0x1000000000
 markWord Mark.isTwoMore = 0x2000000000
 markWord Mark.isCall = 0x4000000000
-markWord Mark.isInner = 0x8000000000
 
 abbrev pub marksWord : List Mark → ℕ
 marksWord [] = 0
@@ -93,10 +92,6 @@ nestingOf limited row = pick limited (row / 0x1000000000 % 4) (row / 0x100000000
 
 abbrev pub callsOf : ℕ → ℕ
 callsOf row = row / 0x4000000000 % 2
-
--- whether it may have others in it that count in nesting
-abbrev pub innerOf : ℕ → ℕ
-innerOf row = row / 0x8000000000 % 2
 
 -- the word of what follows a code at a place of a sort: the sort's own, or else the code's
 abbrev pub followsIn : ℕ → ℕ → ℕ

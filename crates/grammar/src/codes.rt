@@ -60,7 +60,7 @@ pub const OWN: u64 = 0x1_0000_0000;
 const FEW: u64 = 0x4000_0000_0000_0000;
 
 // The marks of a code: its value is a text's length, of up to 255 bytes, or of a name's; it counts in nesting; in an input it counts for
-// two more, being rewritten to three nodes on each path; it is a call; it counts in nesting and may have others in it that do.
+// two more, being rewritten to three nodes on each path; it is a call.
 pub const TEXT_MARK: u64 = 0x2_0000_0000;
 
 pub const LONG_MARK: u64 = 0x4_0000_0000;
@@ -72,8 +72,6 @@ pub const NODE_MARK: u64 = 0x10_0000_0000;
 const TWO_MORE_MARK: u64 = 0x20_0000_0000;
 
 const CALL_MARK: u64 = 0x40_0000_0000;
-
-pub const INNER_MARK: u64 = 0x80_0000_0000 + NODE_MARK;
 
 // No such code.
 const UNUSED: u64 = 0o1_00_00_00_00_00;
@@ -116,19 +114,19 @@ const GRAMMAR: [u64; 109] = [
     0,
     // the codes
     UNUSED,
-    0o01_01 + INNER_MARK, // 1 And
-    0o01_01 + INNER_MARK + TWO_MORE_MARK, // 2 Or
-    0o01 + INNER_MARK, // 3 Not
-    0o01_10 + INNER_MARK, // 4 Formerly
-    0o01_10 + INNER_MARK, // 5 Previous
-    0o01_10_01 + INNER_MARK, // 6 Since
-    0o24_04_04_23_05 + INNER_MARK, // 7 Predicate
-    0o02_02_12 + INNER_MARK, // 8 Comparison
-    0o01_07_06 + INNER_MARK, // 9 Exists
-    0o06 + INNER_MARK, // 10 Tp
-    0o13 + INNER_MARK, // 11 Call
-    0o15 + INNER_MARK, // 12 SigilRef
-    0o24_01_05 + INNER_MARK, // 13 Refine
+    0o01_01 + NODE_MARK, // 1 And
+    0o01_01 + NODE_MARK + TWO_MORE_MARK, // 2 Or
+    0o01 + NODE_MARK, // 3 Not
+    0o01_10 + NODE_MARK, // 4 Formerly
+    0o01_10 + NODE_MARK, // 5 Previous
+    0o01_10_01 + NODE_MARK, // 6 Since
+    0o24_04_04_23_05 + NODE_MARK, // 7 Predicate
+    0o02_02_12 + NODE_MARK, // 8 Comparison
+    0o01_07_06 + NODE_MARK, // 9 Exists
+    0o06 + NODE_MARK, // 10 Tp
+    0o13 + NODE_MARK, // 11 Call
+    0o15 + NODE_MARK, // 12 SigilRef
+    0o24_01_05 + NODE_MARK, // 13 Refine
     UNUSED,
     UNUSED,
     UNUSED,
@@ -144,14 +142,14 @@ const GRAMMAR: [u64; 109] = [
     0o44 + NODE_MARK, // 26 ScopeField
     TEXT_MARK + NAME_MARK + NODE_MARK, // 27 Var
     0o1_00_00_00_00_00 + NODE_MARK, // 28 Wildcard
-    0o42 + INNER_MARK, // 29 Array
-    0o1_00_00_00_00_03 + INNER_MARK, // 30 Agg
-    0o3_00_00_00_02_02 + INNER_MARK, // 31 Arith
+    0o42 + NODE_MARK, // 29 Array
+    0o1_00_00_00_00_03 + NODE_MARK, // 30 Agg
+    0o3_00_00_00_02_02 + NODE_MARK, // 31 Arith
     TEXT_MARK + NODE_MARK, // 32 ParamRef
     TEXT_MARK + NODE_MARK, // 33 BinderRef
-    0o01_25_06 + INNER_MARK, // 34 Sum
-    0o01_25 + INNER_MARK, // 35 Count
-    0o13 + INNER_MARK, // 36 aggregate Call
+    0o01_25_06 + NODE_MARK, // 34 Sum
+    0o01_25 + NODE_MARK, // 35 Count
+    0o13 + NODE_MARK, // 36 aggregate Call
     UNUSED,
     UNUSED,
     UNUSED,

@@ -35,6 +35,29 @@ pub fn text_width(code: u8, value: u64) -> u64
     }
 }
 
+// Whether an entry has text. The codes stand one by one, so that the compiler makes one test of a set of them.
+pub fn is_text(code: u8) -> bool
+    ensures { λ r. ⌜ r ≡ isText code ⌝ }
+{
+    match code {
+        22 => true,
+        23 => true,
+        27 => true,
+        32 => true,
+        33 => true,
+        40 => true,
+        43 => true,
+        44 => true,
+        45 => true,
+        52 => true,
+        58 => true,
+        59 => true,
+        72 => true,
+        74 => true,
+        _ => false,
+    }
+}
+
 // Whether an entry is a condition, a term or an aggregate.
 pub fn is_node(code: u8) -> bool
     ensures { λ r. ⌜ r ≡ isNode code ⌝ }

@@ -1,6 +1,5 @@
 // The codes of provider tapes (document 02, point 11) as constants; specs/Provider.antt has them with names. A scan with this table is a scan
 // of such a tape.
-use crate::codes::INNER_MARK;
 use crate::codes::LONG_MARK;
 use crate::codes::NODE_MARK;
 use crate::codes::OWN;
@@ -124,7 +123,7 @@ const PROVIDER: [u64; 109] = [
     NODE_MARK, // 73 Integer
     TEXT_MARK + LONG_MARK + NODE_MARK, // 74 Decimal
     0o2_00_00_00_00_00 + NODE_MARK, // 75 Bool
-    0o42 + INNER_MARK, // 76 Set
+    0o42 + NODE_MARK, // 76 Set
 ];
 
 // The table, for a scan to lend.

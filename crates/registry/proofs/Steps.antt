@@ -1,6 +1,6 @@
 -- One law for each way a function of the crate returns, from what the code learnt to the definition that the contract cites.
 -- Assumes nothing.
-use Prim.Native.Nat.{ℕ, zero, suc, _+_, _*_, _-_, _/_, _%_, _≤_, _<_}
+use Prim.Native.Nat.{ℕ, suc, _+_, _*_, _-_, _/_, _%_, _≤_, _<_}
 use native.Mathlib.Omega.{arith}
 use native.Mathlib.Nat.{sub-zero}
 use native.Mathlib.Numerals.{add-one}
@@ -9,7 +9,7 @@ use mathlib.Core.List.{List, [], _∷_, _++_, append-nil}
 use mathlib.Core.Bool.{Bool, true, false, _||_}
 use lib.Dec.{leb, eqb}
 use lib.ListN.{length, take, drop, getD, length-drop, take-append-drop, drop-of-length-le}
-use lib.Seq.{sets, take-nil, drop-drop, drop-cons, append-snoc}
+use lib.Seq.{sets, take-nil, drop-drop, drop-cons, getD-drop, append-snoc}
 use borrow.Author.Tests.{lt-leb, le-leb, eq-eqb, ne-eqb}
 use Rattle.format.specs.Entry.{Text}
 use Rattle.format.specs.Tape.{isText, textWidth}
@@ -31,10 +31,10 @@ use Rattle.messages.specs.declared.Refused.{Refused as RefusedBy}
 use Rattle.messages.specs.declared.Reason.the-variants.{WithoutMessage, Reserved, Duplicate}
 use Rattle.answer.specs.declared.Verdict.{Verdict}
 use Rattle.answer.specs.declared.Verdict.the-variants.{Passes, Refused}
-use Rattle.registry.specs.Places.{Row, origin, firstRow, rowsIn, keyFrom, keyOf, endOf, consIf, keyAt, rowsFrom, indexAt, getAt, andThenIn, checkAt, buildFromAt, buildAt}
+use Rattle.registry.specs.Places.{Row, origin, firstRow, rowsIn, rowsBetween, Ends, fromKey, FirstAt, keyFrom, keyOf, endOf, consIf, keyAt, rowsFrom, indexAt, getAt, andThenIn, checkAt, buildFromAt, buildAt}
 use Rattle.registry.specs.declared.Found.{Found}
 use Rattle.registry.specs.declared.Found.the-variants.{Definition, Nothing}
-use Rattle.registry.proofs.Tables.{table-ends, rows-left, no-rows, row-read, row-written, rest-behind}
+use Rattle.registry.proofs.Tables.{table-ends, rows-left, no-rows, row-read, row-written, rest-behind, number-at, between-none, between-next}
 
 -- ------------------------------------------------------------------ keys
 
@@ -153,61 +153,79 @@ module _ (s : List ℕ) (l : Layout) where
 
 -- ------------------------------------------------------------------ the definition of a name
 
--- a table without its first row
-module _ (l : Layout) (rest : List ℕ) (left : ℕ) where
-  pub end-last : left ≡ 0 → l .entries ≡ endOf l (rowsIn rest left)
-  unfolding endOf
-  end-last h = rw (no-rows rest {n = left} (omega arith))
+-- the place in a row
+pub place-here : (table : List ℕ) (k : ℕ) → place (getD table k 0 % 2048) (getD table (k + 1) 0) ≡ firstRow (drop k table) .place
+unfolding firstRow
+place-here table k = rw (number-at table k, getD-drop k table 1 0)
 
-  pub end-short : length rest < 2 → l .entries ≡ endOf l (rowsIn rest left)
+-- the row behind a definition's
+module _ (l : Layout) (table : List ℕ) (next end : ℕ) where
+  pub end-last : end ≤ next → l .entries ≡ endOf l (rowsBetween table next end)
   unfolding endOf
-  end-short h = rw (table-ends rest left h)
+  end-last h = rw (between-none table next end h)
 
-  pub end-next : (left ≡ 0 → ⊥) → 2 ≤ length rest → getD rest 0 0 % 2048 ≡ endOf l (rowsIn rest left)
+  pub end-next : next < end → (end - next) % 2 ≡ 0 → end ≤ length table → getD table next 0 % 2048 ≡ endOf l (rowsBetween table next end)
   unfolding endOf firstRow
-  end-next h k = let some : 0 < left = not-zero left h in rw (rows-left rest some k)
+  end-next h w i = rw (between-next table next end h w i, number-at table next)
+
+module _ (s : List ℕ) (l : Layout) (name : Text) where
+  -- rows with other keys have other names
+  from-key : (rs : List Row) → getAt s l (fromKey (keyOf name) rs) name ≡ getAt s l rs name
+  unfolding getAt fromKey
+  from-key [] = refl
+  from-key (r ∷ rs) = go (eqb (r .key) (keyOf name)) refl (from-key rs)
     where
-      not-zero : (n : ℕ) → (n ≡ 0 → ⊥) → 0 < n
-      not-zero zero h = absurd (h refl)
-      not-zero (suc n) h = omega arith
+      go : (b : Bool) → eqb (r .key) (keyOf name) ≡ b → getAt s l (fromKey (keyOf name) rs) name ≡ getAt s l rs name
+          → getAt s l (pick b (r ∷ rs) (fromKey (keyOf name) rs)) name ≡ getAt s l (r ∷ rs) name
+      go true t e = refl
+      go false t e = let other : getAt s l (r ∷ rs) name ≡ getAt s l rs name = rw t in e ∙ sym other
 
-module _ (s : List ℕ) (l : Layout) (name : Text) (rest : List ℕ) (left : ℕ) {g : Found} (inv : getAt s l (rowsIn rest left) name ≡ g) where
-  pub get-done : left ≤ 0 → Nothing ≡ g
-  unfolding getAt
-  get-done h = rw (no-rows rest h) at inv
+  pub get-skips : (table : List ℕ) (from end : ℕ) {key at : ℕ} → key ≡ keyOf name → FirstAt table key from end at
+      → getAt s l (rowsBetween table at end) name ≡ getAt s l (rowsBetween table from end) name
+  get-skips table from end y d =
+      ap (λ (rs : List Row). getAt s l rs name) (d .rows ∙ ap (λ (n : ℕ). fromKey n (rowsBetween table from end)) y) ∙ from-key (rowsBetween table from end)
 
-  pub get-short : length rest < 2 → Nothing ≡ g
-  unfolding getAt
-  get-short h = rw (table-ends rest left h) at inv
+  pub get-start : (table : List ℕ) (count : ℕ) {end key at : ℕ} → key ≡ keyOf name → Ends table count end → FirstAt table key 0 end at
+      → getAt s l (rowsBetween table at end) name ≡ getAt s l (rowsIn table count) name
+  get-start table count {end} y z d = get-skips table 0 end y d ∙ ap (λ (rs : List Row). getAt s l rs name) (z .same)
 
-  module _ {key : ℕ} (h : 0 < left) (k : 2 ≤ length rest) (i : key ≡ keyOf name) where
-    -- the first row, and the rest
-    first-left : pick (eqb (firstRow rest .key) key)
-        (onHeading Nothing (λ head params. pick (eqText (nameAt s l (head .name)) name) (Definition head params (endOf l (rowsIn (drop 2 rest) (left - 1)))) (getAt s l (rowsIn (drop 2 rest) (left - 1)) name))
-        (headingAt s l (firstRow rest .place) 60))
-        (getAt s l (rowsIn (drop 2 rest) (left - 1)) name) ≡ g
+  module _ (table : List ℕ) (k end : ℕ) {g : Found} (inv : getAt s l (rowsBetween table k end) name ≡ g) where
+    pub get-done : end ≤ k → Nothing ≡ g
     unfolding getAt
-    first-left = rw (rows-left rest h k, ← i) at inv
+    get-done h = rw (between-none table k end h) at inv
 
-    pub get-other : (getD rest 0 0 / 2048 ≡ key → ⊥) → getAt s l (rowsIn (take (length rest - 2) (drop 2 rest)) (left - 1)) name ≡ g
-    unfolding firstRow
-    get-other o = rw (rest-behind rest) (rw (ne-eqb (getD rest 0 0 / 2048) key o) at first-left)
+    -- a row with the name's key
+    module _ {key : ℕ} {p : Place} {x : HeadingRead} (h : k < end) (w : (end - k) % 2 ≡ 0) (i : end ≤ length table) (y : key ≡ keyOf name)
+        (j : getD table k 0 / 2048 ≡ key) (q : p ≡ firstRow (drop k table) .place) (e : x ≡ headingAt s l p 60) where
+      -- by its heading, and then by the rest
+      byHeading : HeadingRead → Found
+      byHeading z =
+          onHeading Nothing
+          (λ head params. pick (eqText (nameAt s l (head .name)) name) (Definition head params (endOf l (rowsBetween table (k + 2) end))) (getAt s l (rowsBetween table (k + 2) end) name))
+          z
 
-    module _ {p : Place} {x : HeadingRead} (j : getD rest 0 0 / 2048 ≡ key) (q : p ≡ firstRow rest .place) (e : x ≡ headingAt s l p 60) where
-      same-key : onHeading Nothing (λ head params. pick (eqText (nameAt s l (head .name)) name) (Definition head params (endOf l (rowsIn (drop 2 rest) (left - 1)))) (getAt s l (rowsIn (drop 2 rest) (left - 1)) name)) x ≡ g
+      first-left : pick (eqb (firstRow (drop k table) .key) key) (byHeading (headingAt s l (firstRow (drop k table) .place) 60)) (getAt s l (rowsBetween table (k + 2) end) name) ≡ g
+      unfolding getAt byHeading
+      first-left = rw (between-next table k end h w i, ← y) at inv
+
+      same-key : byHeading x ≡ g
       unfolding firstRow
-      same-key = rw (eq-eqb (getD rest 0 0 / 2048) key j, ← q, ← e) at first-left
+      same-key =
+          let there : getD (drop k table) 0 0 / 2048 ≡ key = ap (λ (n : ℕ). n / 2048) (number-at table k) ∙ j in
+          rw (eq-eqb (getD (drop k table) 0 0 / 2048) key there, ← q, ← e) at first-left
 
       pub get-unread : {r : Refusal} → x ≡ hr.Refused r → Nothing ≡ g
+      unfolding byHeading
       get-unread r = rw r at same-key
 
-      module _ {head : Heading} {params : Place} {u : List ℕ} {f : Bool} (r : x ≡ hr.Node head params) (v : u ≡ nameAt s l (head .name)) (y : f ≡ eqText u name) where
-        pub get-found : {end : ℕ} → f ≡ true → end ≡ endOf l (rowsIn (take (length rest - 2) (drop 2 rest)) (left - 1)) → Definition head params end ≡ g
-        get-found t z =
-            ap (Definition head params) (z ∙ ap (λ (t : List ℕ). endOf l (rowsIn t (left - 1))) (rest-behind rest)) ∙ (rw (r, ← v, ← y, t) at same-key)
+      module _ {head : Heading} {params : Place} {u : List ℕ} {f : Bool} (r : x ≡ hr.Node head params) (v : u ≡ nameAt s l (head .name)) (c : f ≡ eqText u name) where
+        pub get-found : {last : ℕ} → f ≡ true → last ≡ endOf l (rowsBetween table (k + 2) end) → Definition head params last ≡ g
+        unfolding byHeading
+        get-found t z = ap (Definition head params) z ∙ (rw (r, ← v, ← c, t) at same-key)
 
-        pub get-next : f ≡ false → getAt s l (rowsIn (take (length rest - 2) (drop 2 rest)) (left - 1)) name ≡ g
-        get-next t = rw (rest-behind rest) (rw (r, ← v, ← y, t) at same-key)
+        pub get-next : {at : ℕ} → f ≡ false → FirstAt table key (k + 2) end at → getAt s l (rowsBetween table at end) name ≡ g
+        unfolding byHeading
+        get-next t d = get-skips table (k + 2) end y d ∙ (rw (r, ← v, ← c, t) at same-key)
 
 -- ------------------------------------------------------------------ reserved names and duplicates
 

@@ -2,12 +2,12 @@
 -- Assumes nothing.
 use Prim.Native.Nat.{ℕ, zero, suc, _+_, _*_, _-_, _/_, _%_, _≤_, _<_}
 use native.Mathlib.Omega.{arith}
-use mathlib.Core.Path.{_≡_, refl, ap, _∙_}
+use mathlib.Core.Path.{_≡_, refl, sym, ap, _∙_}
 use mathlib.Core.List.{List, [], _∷_, _++_}
-use lib.ListN.{length, take, drop, length-drop}
-use lib.Seq.{sets, take-all, drop-drop}
-use borrow.Author.Tests.{le-leb, lt-leb}
-use Rattle.registry.specs.Places.{Row, firstRow, rowsIn}
+use lib.ListN.{length, take, drop, getD, length-drop}
+use lib.Seq.{sets, take-all, drop-drop, getD-drop}
+use borrow.Author.Tests.{le-leb, lt-leb, eq-eqb, ne-eqb}
+use Rattle.registry.specs.Places.{Row, firstRow, rowsIn, rowsBetween, Ends, fromKey}
 
 module _ (table : List ℕ) where
   -- nothing is in a table that is too short for a row
@@ -30,6 +30,61 @@ no-rows table {n} h = let e : n ≡ 0 = omega arith in rw e
 -- what stands behind the first row
 pub rest-behind : (rest : List ℕ) → take (length rest - 2) (drop 2 rest) ≡ drop 2 rest
 rest-behind rest = take-all (length rest - 2) (drop 2 rest) (omega (arith, length-drop 2 rest))
+
+-- ------------------------------------------------------------------ rows by the numbers where they begin
+
+-- a table has a row for two numbers, and no more
+pub rows-most : (n : ℕ) (table : List ℕ) → length table / 2 ≤ n → rowsIn table (length table / 2) ≡ rowsIn table n
+rows-most n [] h = table-ends [] 0 (omega arith) ∙ sym (table-ends [] n (omega arith))
+rows-most n (x ∷ []) h = table-ends (x ∷ []) 0 (omega arith) ∙ sym (table-ends (x ∷ []) n (omega arith))
+rows-most zero (x ∷ y ∷ table) h = absurd (omega arith)
+rows-most (suc n) (x ∷ y ∷ table) h =
+    let e : length (x ∷ y ∷ table) / 2 ≡ suc (length table / 2) = omega arith in
+    ap (rowsIn (x ∷ y ∷ table)) e
+    ∙ next-row (x ∷ y ∷ table) (length table / 2) (omega arith)
+    ∙ ap (λ (rs : List Row). firstRow (x ∷ y ∷ table) ∷ rs) (rows-most n table (omega arith))
+    ∙ sym (next-row (x ∷ y ∷ table) n (omega arith))
+
+pub ends-at : (table : List ℕ) (n m : ℕ) → 2 * m ≤ length table → rowsIn table m ≡ rowsIn table n → Ends table n (2 * m)
+ends-at table n m i e =
+    let half : (2 * m - 0) / 2 ≡ m = omega arith in
+    record { whole = record { inside = i; even = omega arith }; same = ap (rowsIn table) half ∙ e }
+
+-- the first number of the row
+pub number-at : (table : List ℕ) (k : ℕ) → getD (drop k table) 0 0 ≡ getD table k 0
+number-at table k =
+    let e : k + 0 ≡ k = omega arith in
+    getD-drop k table 0 0 ∙ ap (λ (j : ℕ). getD table j 0) e
+
+module _ (table : List ℕ) (k end : ℕ) where
+  pub between-none : end ≤ k → rowsBetween table k end ≡ []
+  between-none h = no-rows (drop k table) {n = (end - k) / 2} (omega arith)
+
+  pub key-nowhere : (key : ℕ) → end ≤ k → rowsBetween table k end ≡ fromKey key (rowsBetween table k end)
+  unfolding fromKey
+  key-nowhere key h = rw (between-none h)
+
+  module _ (h : k < end) (w : (end - k) % 2 ≡ 0) (i : end ≤ length table) where
+    pub between-next : rowsBetween table k end ≡ firstRow (drop k table) ∷ rowsBetween table (k + 2) end
+    between-next =
+        let n : (end - k) / 2 - 1 ≡ (end - (k + 2)) / 2 = omega arith in
+        let more : 2 ≤ length (drop k table) = omega (arith, length-drop k table) in
+        let some : 0 < (end - k) / 2 = omega arith in
+        rows-left (drop k table) {n = (end - k) / 2} some more ∙ rw (drop-drop 2 k table, n)
+
+    pub key-hit : (key : ℕ) → getD table k 0 / 2048 ≡ key → rowsBetween table k end ≡ fromKey key (rowsBetween table k end)
+    unfolding firstRow fromKey
+    key-hit key e =
+        let there : getD (drop k table) 0 0 / 2048 ≡ key = ap (λ (x : ℕ). x / 2048) (number-at table k) ∙ e in
+        rw (between-next, eq-eqb (getD (drop k table) 0 0 / 2048) key there)
+
+    pub key-miss : (key : ℕ) → (getD table k 0 / 2048 ≡ key → ⊥) → fromKey key (rowsBetween table k end) ≡ fromKey key (rowsBetween table (k + 2) end)
+    unfolding firstRow fromKey
+    key-miss key o =
+        let other : getD (drop k table) 0 0 / 2048 ≡ key → ⊥ = λ e. o (sym (ap (λ (x : ℕ). x / 2048) (number-at table k)) ∙ e) in
+        rw (between-next, ne-eqb (getD (drop k table) 0 0 / 2048) key other)
+
+-- ------------------------------------------------------------------ rows that are written
 
 -- one row more
 pub row-read : (n : ℕ) (table : List ℕ) → 2 * n + 2 ≤ length table → rowsIn table (suc n) ≡ rowsIn table n ++ firstRow (drop (2 * n) table) ∷ []

@@ -1,6 +1,7 @@
 -- A registry by the places of its definitions: where they stand, the one that a name finds, and the first name that is refused.
 -- Assumes nothing.
-use Prim.Native.Nat.{ℕ, zero, suc, _+_, _*_, _/_, _%_}
+use Prim.Native.Nat.{ℕ, zero, suc, _+_, _*_, _-_, _/_, _%_, _≤_, _<_}
+use mathlib.Core.Path.{_≡_}
 use mathlib.Core.List.{List, [], _∷_, _++_}
 use mathlib.Core.Bool.{Bool, true, false}
 use lib.Dec.{leb, eqb}
@@ -37,6 +38,32 @@ firstRow table = record { place = record { at = getD table 0 0 % 2048; text = ge
 unfoldable pub rowsIn : List ℕ → ℕ → List Row
 rowsIn table zero = []
 rowsIn table (suc n) = pick (leb 2 (length table)) (firstRow table ∷ rowsIn (drop 2 table) n) []
+
+-- those between two numbers of a table
+abbrev pub rowsBetween : List ℕ → ℕ → ℕ → List Row
+rowsBetween table from end = rowsIn (drop from table) ((end - from) / 2)
+
+-- no row is cut there
+pub record Whole (table : List ℕ) (from end : ℕ) : Type 0 where
+  pub inside : end ≤ length table
+  pub even : (end - from) % 2 ≡ 0
+
+-- the number behind the first n rows
+pub record Ends (table : List ℕ) (n end : ℕ) : Type 0 where
+  pub whole : Whole table 0 end
+  pub same : rowsBetween table 0 end ≡ rowsIn table n
+
+-- the rows from the first one on that has a key
+unfoldable pub fromKey : ℕ → List Row → List Row
+fromKey key [] = []
+fromKey key (r ∷ rs) = pick (eqb (r .key) key) (r ∷ rs) (fromKey key rs)
+
+-- where they begin
+pub record FirstAt (table : List ℕ) (key from end at : ℕ) : Type 0 where
+  pub rows : rowsBetween table at end ≡ fromKey key (rowsBetween table from end)
+  pub onward : from ≤ at
+  pub there : at < end → getD table at 0 / 2048 ≡ key
+  pub even : (end - at) % 2 ≡ 0
 
 -- a name's key is made of its bytes, so that names with other keys are other names
 unfoldable pub keyFrom : ℕ → Text → ℕ

@@ -8,7 +8,7 @@ use answer::answer_verdict;
 use answer::refuse_number;
 use buffer::read_value;
 use grammar::codes::DEFINITIONS;
-use grammar::kind::text_width;
+use grammar::kind::is_text;
 use messages::Reason;
 use messages::refuse;
 use nodes::Heading;
@@ -27,15 +27,16 @@ use tape::layout::value_at;
 ghost use mathlib.Core.Path.{_≡_};
 ghost use mathlib.Core.List.{[], _∷_};
 ghost use Prim.Native.Nat.{_+_, _*_, _/_, _≤_, _<_};
-ghost use lib.ListN.{length, take};
+ghost use lib.ListN.{length, take, drop};
 ghost use lib.Seq.{sets};
+ghost use Rattle.format.specs.Tape.{isText, textWidth};
 ghost use Rattle.definition.specs.Answers.{registryAnswer};
 ghost use Rattle.definition.specs.Check.{contains};
 ghost use Rattle.definition.specs.Registry.{reservedNames};
-ghost use Rattle.tape.specs.Layouts.{Held};
+ghost use Rattle.tape.specs.Layouts.{valueAt, Held};
 ghost use Rattle.answer.specs.Matches.{answerWith};
 ghost use Rattle.definition.specs.Counts.{freshCounts};
-ghost use Rattle.registry.specs.Places.{origin, firstRow, rowsIn, keyOf, endOf, keyAt, rowsFrom, indexAt, getAt, checkAt, buildAt};
+ghost use Rattle.registry.specs.Places.{origin, firstRow, rowsIn, rowsBetween, Whole, Ends, FirstAt, keyOf, endOf, keyAt, rowsFrom, indexAt, getAt, checkAt, buildAt};
 
 pub mod counts;
 
@@ -85,15 +86,23 @@ fn put_row(places: &mut [usize], k: usize, p: Place, key: usize)
     places[k + 1] = p.text;
 }
 
-// The first place of a table, or of the rest of one.
-fn first_place(places: &[usize]) -> Place
-    requires { ⌜ 2 ≤ length (now places) ⌝ }
-    ensures { λ r. ⌜ r ≡ firstRow (now (places .entry)) .place ⌝ }
+// The place in the row that begins with a number of a table.
+fn place_at(places: &[usize], k: usize) -> Place
+    requires { ⌜ k + 2 ≤ length (now places) ⌝ }
+    ensures { λ r. ⌜ r ≡ firstRow (drop k (now (places .entry))) .place ⌝ }
 {
     Place {
-        at: places[0] % 2048,
-        text: places[1],
+        at: places[k] % 2048,
+        text: places[k + 1],
     }
+}
+
+// How many bytes of text an entry takes. Few entries have text, and only their values are read.
+fn width_at(s: &[u8], l: Layout, at: usize, code: u8) -> u64
+    requires { ⌜ l .values + 8 * at + 8 ≤ length (now s) ⌝ }
+    ensures { λ r. ⌜ r ≡ textWidth (isText code) (valueAt (now (s .entry)) l at) ⌝ }
+{
+    if is_text(code) { value_at(s, l, at) } else { 0 }
 }
 
 // The rows of the entries with the code 60, as many as the table holds, and their number.
@@ -110,15 +119,15 @@ fn index_from(s: &[u8], l: Layout, places: &mut [usize]) -> usize
     while at < entries {
         let p = Place { at, text };
         let code = code_at(s, l, at);
-        let width = text_width(code, value_at(s, l, at));
+        let width = width_at(s, l, at, code);
         if ((size - text) as u64) < width {
             return n;
         }
         at += 1;
         text += width as usize;
         if code == 60 {
+            let key = key_at(s, l, p);
             if n < room {
-                let key = key_at(s, l, p);
                 put_row(places, 2 * n, p, key);
                 n += 1;
             }
@@ -200,7 +209,7 @@ pub fn check_names(s: &[u8], l: Layout, places: &[usize], count: usize) -> Verdi
         if rest.len() < 2 {
             return Verdict::Passes;
         }
-        let found = check_name(s, l, places, i, first_place(rest));
+        let found = check_name(s, l, places, i, place_at(rest, 0));
         let Verdict::Passes = found else {
             return found;
         };
@@ -248,17 +257,42 @@ pub fn build(registry: &[u8], message: &mut [u8]) -> Registered
     Registered { answer, counts }
 }
 
-// A definition ends where the next row's begins, and the last one where the entries end.
-fn end_of(l: Layout, rest: &[usize], left: usize) -> usize
-    ensures { λ r. ⌜ r ≡ endOf l (rowsIn (now (rest .entry)) left) ⌝ }
+// Where the first `count` rows of a table end, or all of them where it has fewer.
+fn rows_end(places: &[usize], count: usize) -> usize
+    ensures { λ r. ⌜ Ends (now (places .entry)) count r ⌝ }
 {
-    if left == 0 {
-        return l.entries;
+    let room = places.len() / 2;
+    if count < room {
+        return 2 * count;
     }
-    if rest.len() < 2 {
-        return l.entries;
+    2 * room
+}
+
+// Where the first row with a key begins, among those between two numbers of a table; no row begins there where none has it. For the
+// names of a registry each row is asked by all later ones, so a turn reads one number and compares it.
+fn find_key(places: &[usize], from: usize, end: usize, key: usize) -> usize
+    requires { ⌜ Whole (now places) from end ⌝ }
+    ensures { λ r. ⌜ FirstAt (now (places .entry)) key from end r ⌝ }
+{
+    let mut k = from;
+    while k < end {
+        if places[k] / 2048 == key {
+            return k;
+        }
+        k += 2;
     }
-    rest[0] % 2048
+    k
+}
+
+// A definition ends where the next row's begins, and the last one where the entries end.
+fn end_of(l: Layout, places: &[usize], next: usize, end: usize) -> usize
+    requires { ⌜ Whole (now places) next end ⌝ }
+    ensures { λ r. ⌜ r ≡ endOf l (rowsBetween (now (places .entry)) next end) ⌝ }
+{
+    if next < end {
+        return places[next] % 2048;
+    }
+    l.entries
 }
 
 // `Registry::get`: the first definition of a name among the first `count`. A heading is read only where the key is the name's.
@@ -266,23 +300,16 @@ pub fn get(s: &[u8], l: Layout, places: &[usize], count: usize, name: &[u8]) -> 
     ensures { λ r. ⌜ r ≡ getAt (now (s .entry)) l (rowsIn (now (places .entry)) count) (now (name .entry)) ⌝ }
 {
     let key = key_of(name);
-    let mut rest = places;
-    let mut left = count;
-    while 0 < left {
-        if rest.len() < 2 {
+    let end = rows_end(places, count);
+    let mut k = find_key(places, 0, end, key);
+    while k < end {
+        let HeadingRead::Node(h, params) = read_heading(s, l, place_at(places, k), 60) else {
             return Found::Nothing;
+        };
+        if same_text(name_at(s, l, h.name), name) {
+            return Found::Definition(h, params, end_of(l, places, k + 2, end));
         }
-        let row = rest;
-        rest = &rest[2..];
-        left = left - 1;
-        if row[0] / 2048 == key {
-            let HeadingRead::Node(h, params) = read_heading(s, l, first_place(row), 60) else {
-                return Found::Nothing;
-            };
-            if same_text(name_at(s, l, h.name), name) {
-                return Found::Definition(h, params, end_of(l, rest, left));
-            }
-        }
+        k = find_key(places, k + 2, end, key);
     }
     Found::Nothing
 }

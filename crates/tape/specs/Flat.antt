@@ -1,9 +1,9 @@
--- Trees so small that they cannot be too deep: fewer than 64 nodes that may have others in them, and at most four calls.
+-- Trees so small that they cannot be too deep: at most four calls, and either 64 entries or few nodes that may have others in them.
 -- Assumes nothing.
-use Prim.Native.Nat.{ℕ, _+_, _-_}
+use Prim.Native.Nat.{ℕ, _+_, _*_}
 use mathlib.Core.List.{List, [], _∷_}
 use mathlib.Core.Bool.{Bool, _&&_, _||_}
-use lib.Dec.{leb, ltb, eqb}
+use lib.Dec.{leb, eqb}
 use Rattle.format.specs.Limits.{weigh}
 use Rattle.format.specs.Stands.{part}
 use Rattle.tape.specs.Layouts.{holds}
@@ -22,15 +22,20 @@ sumIn f s l = sumOf f (part s (l .codes) (l .entries))
 abbrev pub weightOf : ℕ → ℕ → ℕ
 weightOf code c = weigh (eqb c code)
 
--- a condition, an array, an aggregate as a term or by itself, or arithmetic
-abbrev pub isInner : ℕ → Bool
-isInner c = leb 1 c && leb c 13 || (leb 29 c && leb c 31 || leb 34 c && leb c 36)
+-- a condition that may have another in it, an array, an aggregate as a term, or arithmetic; a predicate and a comparison have nothing but
+-- terms in them
+abbrev pub isBranch : ℕ → Bool
+isBranch c = (leb 1 c && leb c 6 || leb 9 c && leb c 13) || leb 29 c && leb c 31
 
-abbrev pub innerWeight : ℕ → ℕ
-innerWeight c = weigh (isInner c)
+abbrev pub branchWeight : ℕ → ℕ
+branchWeight c = weigh (isBranch c)
 
+-- A path has such nodes on it, and behind them a predicate and a term. An aggregate, a 30, makes it two nodes longer: by the 34 to 36
+-- behind it, and by the predicate or comparison that it stands in.
 abbrev pub isSmall : List ℕ → Layout → Bool
-isSmall s l = leb (sumIn (weightOf 54) s l) 4 && ltb (sumIn innerWeight s l) 64
+isSmall s l =
+    leb (sumIn (weightOf 54) s l) 4
+    && (leb (l .entries) 64 || leb (sumIn branchWeight s l + 2 * sumIn (weightOf 30) s l) 61)
 
 abbrev pub isFlat : List ℕ → Layout → Bool
 isFlat s l = holds s l && isSmall s l

@@ -4,12 +4,11 @@ use grammar::codes::both;
 ghost use mathlib.Core.Path.{_≡_};
 ghost use mathlib.Core.List.{[], _∷_};
 ghost use lib.Dec.{eqb};
-ghost use lib.ListN.{drop};
 ghost use Rattle.format.specs.Stands.{part};
 ghost use Rattle.format.specs.Utf8.{_to_, move, moved, next, run, wellFormed, within};
 
 // Whether the `len` bytes from `start` on, as far as the slice reaches, are one whole character behind the other. Most texts are
-// 20 to 7E throughout, so the automaton runs only from the first other byte on.
+// 20 to 7E throughout, so the automaton runs only where there is another byte.
 pub fn well_formed(s: &[u8], start: usize, len: usize) -> bool
     ensures { λ r. ⌜ r ≡ wellFormed (part (now (s .entry)) start len) ⌝ }
 {
@@ -17,7 +16,7 @@ pub fn well_formed(s: &[u8], start: usize, len: usize) -> bool
     let mut i = 0;
     while i < t.len() {
         if !is_printing(t[i]) {
-            return ends_between(t, i);
+            return ends_between(t);
         }
         i += 1;
     }
@@ -31,12 +30,12 @@ fn is_printing(b: u8) -> bool
     both(0x20 <= b, b <= 0x7e)
 }
 
-// Whether the bytes from `from` on, where a character may begin, end between characters.
-fn ends_between(t: &[u8], from: usize) -> bool
-    ensures { λ r. ⌜ r ≡ eqb (run 0 (drop from (now (t .entry)))) 0 ⌝ }
+// Whether a text ends between characters.
+fn ends_between(t: &[u8]) -> bool
+    ensures { λ r. ⌜ r ≡ eqb (run 0 (now (t .entry))) 0 ⌝ }
 {
     let mut state: u8 = 0;
-    let mut i = from;
+    let mut i = 0;
     while i < t.len() {
         state = next(state, t[i]);
         i += 1;

@@ -25,14 +25,14 @@ returns c = build-short _ _ _ _ _ _ (c .before .before .loop .inv .0) (omega ari
 
 returns-2 : tie.Need-returns-2 Inv-loop μ-loop
 returns-2 c =
-    build-refused _ _ _ _ _ _ (c .before .before .before .before .before .before .loop .inv .0) (c .before .before .before .before .before .loop-test .taken) (omega arith) (c .before .before .before .first-place .ensures)
+    build-refused _ _ _ _ _ _ (c .before .before .before .before .before .before .loop .inv .0) (c .before .before .before .before .before .loop-test .taken) (omega arith) (c .before .before .before .place-at .ensures)
     (c .before .before .check-name .ensures) (c .enum-told2 .given .1)
 
 loop-again : tie.Need-loop-again Inv-loop μ-loop
 loop-again c =
     let at = c .before .before .before .before .before .before .before .loop in
     let places = c .before .before .before .before .before .before .before .before .before .before .args .places .now in (
-      build-more _ _ _ _ _ _ (at .inv .0) (c .before .before .before .before .before .before .loop-test .taken) (omega arith) (c .before .before .before .before .first-place .ensures)
+      build-more _ _ _ _ _ _ (at .inv .0) (c .before .before .before .before .before .before .loop-test .taken) (omega arith) (c .before .before .before .before .place-at .ensures)
           (c .before .before .before .check-name .ensures) (c .before .enum-told .given .1) (at .inv .1) (table-room places (at .i) (at .inv .1) (omega arith)),
       rest-next places _ (at .i) (at .inv .1),
     )

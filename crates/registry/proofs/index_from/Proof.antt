@@ -27,18 +27,18 @@ loop-holds c =
     (index-start (now (a .s)) (a .l) _ (length (now (a .places)) / 2), omega arith, refl, omega arith, omega arith)
 
 put-row-requires : tie.Need-put-row-requires Inv-loop μ-loop
-put-row-requires c κs = (omega arith, omega (arith, c .before .before .before .before .before .before .before .before .before .before .before .before .pre .entries-most), key-small _ _ _ (c .before .key-at .ensures))
+put-row-requires c κs = (omega arith, omega (arith, c .before .before .before .before .before .before .before .before .before .before .before .pre .entries-most), key-small _ _ _ (c .before .before .key-at .ensures))
 
 returns : tie.Need-returns Inv-loop μ-loop
 returns c =
-    let at = c .before .before .before .before .before .loop in
-    index-long _ _ _ _ (c .before .before .before .before .loop-test .taken) (c .before .before .before .code-at .ensures) (c .before .before .value-at .ensures) (c .before .text-width .ensures) _ _ _ (at .inv .0) (omega arith) (omega arith)
+    let at = c .before .before .before .before .loop in
+    index-long _ _ _ _ (c .before .before .before .loop-test .taken) (c .before .before .code-at .ensures) refl (c .before .width-at .ensures) _ _ _ (at .inv .0) (omega arith) (omega arith)
 
 loop-again : tie.Need-loop-again Inv-loop μ-loop
 loop-again c =
-    let at = c .before .before .before .before .before .before .before .before .before .before .before .before .loop in
+    let at = c .before .before .before .before .before .before .before .before .before .before .before .loop in
     let placed = c .before .before .put-row in (
-      index-noted _ _ _ _ (c .before .before .before .before .before .before .before .before .before .before .before .loop-test .taken) (c .before .before .before .before .before .before .before .before .before .before .code-at .ensures) (c .before .before .before .before .before .before .before .before .before .value-at .ensures) (c .before .before .before .before .before .before .before .before .text-width .ensures) _ _ _ (at .inv .0) (omega arith) (omega arith) (c .before .before .before .before .before .before .if2 .taken) (omega arith) (omega arith) (omega (arith, c .before .before .before .before .before .before .before .before .before .before .before .before .before .before .before .pre .entries-most)) (c .before .before .before .before .key-at .ensures) (placed .ensures),
+      index-noted _ _ _ _ (c .before .before .before .before .before .before .before .before .before .before .loop-test .taken) (c .before .before .before .before .before .before .before .before .before .code-at .ensures) refl (c .before .before .before .before .before .before .before .before .width-at .ensures) _ _ _ (at .inv .0) (omega arith) (omega arith) (c .before .before .before .before .before .before .if2 .taken) (omega arith) (omega arith) (omega (arith, c .before .before .before .before .before .before .before .before .before .before .before .before .before .before .pre .entries-most)) (c .before .before .before .before .before .key-at .ensures) (placed .ensures),
       omega arith,
       omega (arith, placed .kept),
       omega arith,
@@ -48,7 +48,7 @@ loop-again c =
 loop-again-2 : tie.Need-loop-again-2 Inv-loop μ-loop
 loop-again-2 c =
     let at = c .before .before .before .before .before .before .before .loop in (
-      index-full _ _ _ _ (c .before .before .before .before .before .before .loop-test .taken) (c .before .before .before .before .before .code-at .ensures) (c .before .before .before .before .value-at .ensures) (c .before .before .before .text-width .ensures) _ _ _ (at .inv .0) (omega arith) (omega arith) (c .before .if2 .taken) (omega arith),
+      index-full _ _ _ _ (c .before .before .before .before .before .before .loop-test .taken) (c .before .before .before .before .before .code-at .ensures) refl (c .before .before .before .before .width-at .ensures) _ _ _ (at .inv .0) (omega arith) (omega arith) (c .before .before .if2 .taken) (omega arith),
       omega arith,
       omega arith,
       omega arith,
@@ -57,8 +57,8 @@ loop-again-2 c =
 
 loop-again-3 : tie.Need-loop-again-3 Inv-loop μ-loop
 loop-again-3 c =
-    let at = c .before .before .before .before .before .before .loop in (
-      index-other _ _ _ _ (c .before .before .before .before .before .loop-test .taken) (c .before .before .before .before .code-at .ensures) (c .before .before .before .value-at .ensures) (c .before .before .text-width .ensures) _ _ _ (at .inv .0) (omega arith) (omega arith) (c .if2 .left),
+    let at = c .before .before .before .before .before .loop in (
+      index-other _ _ _ _ (c .before .before .before .before .loop-test .taken) (c .before .before .before .code-at .ensures) refl (c .before .before .width-at .ensures) _ _ _ (at .inv .0) (omega arith) (omega arith) (c .if2 .left),
       omega arith,
       omega arith,
       omega arith,
@@ -75,7 +75,6 @@ index-from-spec =
     Inv-loop
     μ-loop
     loop-holds
-    (λ c κs. search needs)
     (λ c κs. search needs)
     (λ c κs. search needs)
     (λ c. search needs)

@@ -1,4 +1,4 @@
--- `tape::utf8::ends_between` meets its contract. The loop's invariant: the bytes from i on lead where those from `from` on do.
+-- `tape::utf8::ends_between` meets its contract. The loop's invariant: the bytes from i on lead where all of them do.
 -- Assumes nothing.
 use mathlib.Core.Path.{_≡_, refl, ap, sym, _∙_}
 use Prim.Native.Nat.{ℕ, _+_, _-_}
@@ -13,11 +13,11 @@ use Rattle.tape.proofs.utf8.ends_between.Statement.{statement}
 use Rattle.tape.proofs.utf8.ends_between.Tie as tie
 
 abbrev Inv-loop : tie.InvT-loop
-Inv-loop t from state₀ i₀ state i =
-    run state (drop i t) ≡ run 0 (drop from t)
+Inv-loop t state₀ i₀ state i =
+    run state (drop i t) ≡ run 0 t
 
 abbrev μ-loop : tie.MeasureT-loop
-μ-loop t from state₀ i₀ state i =
+μ-loop t state₀ i₀ state i =
     length t - i
 
 loop-again : tie.Need-loop-again Inv-loop μ-loop

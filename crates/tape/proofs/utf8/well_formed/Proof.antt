@@ -1,9 +1,10 @@
 -- `tape::utf8::well_formed` meets its contract. The loop's invariant: the bytes before i lead nowhere.
 -- Assumes nothing.
 use mathlib.Core.Path.{_≡_, refl, ap, sym, _∙_}
-use Prim.Native.Nat.{ℕ, _+_, _-_, _≤_}
+use Prim.Native.Nat.{_-_}
 use lib.ListN.{length, drop}
 use Rattle.format.specs.Utf8.{run, wellFormed}
+use Rattle.format.proofs.Utf8.{run-decides}
 use Rattle.tape.proofs.Moves.{run-printing, run-end, rest-decides}
 use borrow.Author.Needs.{needs}
 use borrow.Author.Tests.{not-false}
@@ -23,9 +24,7 @@ abbrev μ-loop : tie.MeasureT-loop
 returns : tie.Need-returns Inv-loop μ-loop
 returns c =
     let p = c .before .before .before .before .before .before .part-of in
-    let l = c .before .before .before .before .before .loop in
-    c .ends-between .ensures ∙ rest-decides (now (p .result)) (l .i) (run 0 (drop (l .i) (now (p .result)))) (l .inv) refl
-    ∙ ap wellFormed (p .ensures)
+    c .ends-between .ensures ∙ sym (run-decides (now (p .result))) ∙ ap wellFormed (p .ensures)
 
 loop-again : tie.Need-loop-again Inv-loop μ-loop
 loop-again c =

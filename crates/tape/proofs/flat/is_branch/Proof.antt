@@ -1,9 +1,9 @@
--- `tape::flat::is_inner` meets its contract.
+-- `tape::flat::is_branch` meets its contract.
 -- Assumes nothing.
 use mathlib.Core.Path.{_∙_}
 use borrow.Author.Needs.{needs}
-use Rattle.tape.proofs.flat.is_inner.Statement.{statement}
-use Rattle.tape.proofs.flat.is_inner.Tie as tie
+use Rattle.tape.proofs.flat.is_branch.Statement.{statement}
+use Rattle.tape.proofs.flat.is_branch.Tie as tie
 
 returns : tie.Need-returns
 returns c =
@@ -14,8 +14,8 @@ returns c =
       c .before .before .before .before .both .ensures,
     )
 
-pub is-inner-spec : {M : Type 1} → statement M
-is-inner-spec =
+pub is-branch-spec : {M : Type 1} → statement M
+is-branch-spec =
     tie.close
     (tie.spec
     (λ c κs. search needs) (λ c κs. search needs) (λ c κs. search needs) (λ c κs. search needs) (λ c κs. search needs) returns)
