@@ -29,7 +29,6 @@ use Rattle.walk_state.specs.declared.writing.Walk.{Walk}
 use Rattle.answer.specs.Matches.{ended, messageIn, VerdictMatches, AnswersVerdict, OutcomeMatches, AnswersOutcome}
 use Rattle.answer.specs.Tapes.{afterFirst, onFirst, acceptTwo}
 use Rattle.answer.specs.declared.Verdict as code
-use Rattle.answer.specs.declared.tapes.Accepted.{Accepted}
 use Rattle.answer.specs.declared.tapes.Accepted.the-variants.{Both, Refused}
 
 -- ------------------------------------------------------------------ tapes

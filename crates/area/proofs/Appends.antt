@@ -14,7 +14,7 @@ use Rattle.format.specs.Limits.{fitsSizes}
 use Rattle.format.specs.Stands.{Spells}
 use Rattle.format.proofs.Accepted.{length-codes}
 use Rattle.format.proofs.Encodes.{length-values}
-use Rattle.format.proofs.Stands.{codes-append, values-append, text-append, stands-first, first-stands}
+use Rattle.format.proofs.Stands.{codes-append, values-append, text-append, stands-first, first-stands, length-text}
 use Rattle.buffer.specs.Buffer.{Decides, Kept}
 use Rattle.buffer.proofs.Decides.{both, cases, true-of, false-of}
 use Rattle.buffer.proofs.Kept.{kept-sets, spells-front, spells-back, spells-more}
@@ -43,9 +43,6 @@ use Rattle.area.specs.Area.{
 }
 use Rattle.area.proofs.Room.{RunRoom, fits-decides, room-decides, append-room, append-full}
 use Rattle.area.proofs.Within.{within-grown}
-
-length-text : (es more : List Entry) → length (textOf (es ++ more)) ≡ length (textOf es) + length (textOf more)
-length-text es more = ap length (text-append es more) ∙ length-append (textOf es) (textOf more)
 
 -- an area to which nothing was written
 pub out-none : (base : ℕ) (bytes : List ℕ) → base + 12288 ≤ length bytes → Wrote (areaIn (emptyAt base) bytes) []

@@ -1,9 +1,8 @@
 -- One law for each way a function returns: from what the code learnt on the way, in the code's order, to the definition that the
 -- contract cites.
 -- Assumes nothing.
-use Prim.Native.Nat.{ℕ, zero, suc, _-_, _<_, _≤_}
-use native.Mathlib.Omega.{arith}
-use mathlib.Core.Path.{_≡_, refl, sym, _∙_}
+use Prim.Native.Nat.{ℕ, suc, _-_, _<_}
+use mathlib.Core.Path.{_≡_, sym, _∙_}
 use mathlib.Core.List.{List, [], _∷_}
 use mathlib.Core.Bool.{Bool, true, false}
 use Rattle.format.specs.Entry.{Text}
@@ -13,7 +12,7 @@ use Rattle.nodes.specs.Node.{expectAt, pastTypeAt, slotAt, withinAt, nameAt}
 use Rattle.tape.specs.declared.layout.Layout.{Layout}
 use Rattle.tape.specs.declared.layout.Place.{Place}
 use Rattle.tape.specs.declared.scan.Skipped.{Skipped}
-use Rattle.tape.specs.declared.scan.Skipped.the-variants.{At, Nowhere}
+use Rattle.tape.specs.declared.scan.Skipped.the-variants.{At}
 use Rattle.nodes.specs.declared.Name.{Name}
 use Rattle.nodes.specs.declared.Refusal.{Refusal}
 use Rattle.nodes.specs.declared.ValueRead.{ValueRead}

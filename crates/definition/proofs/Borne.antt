@@ -50,9 +50,6 @@ small : {o : Outcome Tree} → Fits Any Unasked Any-number (λ t. t) o → Small
 small (good-done h) = good-done (h .2)
 small (good-refused h) = good-refused (h .0 .1)
 
-pub substitute-small : (limit file : ℕ) (def : MacroDef) (call : Call) → Small (substitute limit file def call)
-substitute-small limit file def call = small (said-substitute (unasked limit file) def (anything _) call (anything _))
-
 pub expand-small : (limit file : ℕ) (defs : List MacroDef) (c : Condition) → Small (expand limit file defs c)
 expand-small limit file defs c =
     small (said-expand defs limit file (unasked limit file) (all-map (λ d h. anything (flatDef d)) (all-any defs)) (refuses-build defs) c (anything _))

@@ -10,7 +10,7 @@ use lib.ListN.{length, replicate, replicate-append-replicate}
 use Rattle.format.specs.Entry.{Text, encode}
 use Rattle.format.specs.Ast.{Condition, Tree, MacroDef}
 use Rattle.format.specs.Flat.{flatTree}
-use Rattle.format.specs.Tape.{Reading, conditionRoot, registryRoot, read, Bytes}
+use Rattle.format.specs.Tape.{Reading, conditionRoot, registryRoot, read}
 use Rattle.format.proofs.Exact.{lawful-registry}
 use Rattle.format.proofs.Rewritten.{rewrites-registry, read-on-tape}
 use Rattle.format.proofs.Registries.{few-fit}

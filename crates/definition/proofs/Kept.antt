@@ -3,18 +3,18 @@
 -- Assumes nothing.
 use Prim.Native.Nat.{ℕ, _-_, _^_, _≤_, _<_}
 use native.Mathlib.Omega.{arith}
-use mathlib.Core.Path.{_≡_, refl, sym}
+use mathlib.Core.Path.{_≡_, refl}
 use mathlib.Core.List.{List, [], _∷_}
-use mathlib.Core.Bool.{Bool, true, false, not, _&&_, false≢true}
+use mathlib.Core.Bool.{Bool, true, false, not, _&&_}
 use lib.Dec.{T, leb, leb→le, lit≤}
 use lib.ListN.{length, replicate, length-append, length-replicate}
 use Rattle.format.specs.Entry.{Entry, encode, textOf}
 use Rattle.format.specs.Ast.{Condition, Call, Tree, MacroParam, MacroDef}
-use Rattle.format.specs.Flat.{flatCondition, flatCall, flatTree, flatParams, flatDef, flatDefs, flatRegistry}
+use Rattle.format.specs.Flat.{flatCondition, flatCall, flatTree, flatParams, flatDef, flatRegistry}
 use Rattle.format.specs.Limits.{nodeWeight, callWeight, deepTree, deepBody, fitsSizes, fitsDepths, fitsAll, tooLargeTree}
 use Rattle.format.specs.Macro.{isCode}
 use Rattle.format.specs.Tape.{Reading, longestText, textsWithin, shortTexts, fewParams, small, conditionRoot, definitionRoot, callRoot, registryRoot, read, Bytes}
-use Rattle.format.proofs.All.{All, all-nil, all-cons, all-head, all-tail, all-left, all-right, all-both, all-map}
+use Rattle.format.proofs.All.{All, all-nil, all-cons, all-head, all-tail, all-left, all-both, all-map}
 use Rattle.format.proofs.Accepted.{Values64, OnTape}
 use Rattle.format.proofs.Tests.{and-left, and-right, not-refused}
 use Rattle.format.proofs.Encodes.{fitting, length-encode}

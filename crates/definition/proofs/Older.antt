@@ -2,7 +2,7 @@
 -- Assumes nothing.
 use Prim.Native.Nat.{ℕ, suc, _≤_}
 use native.Mathlib.Omega.{arith}
-use mathlib.Core.Path.{_≡_, refl, sym, _∙_, ap, subst}
+use mathlib.Core.Path.{_≡_, refl, ap}
 use mathlib.Core.Logic.{_≢_}
 use mathlib.Core.List.{List}
 use mathlib.Core.Bool.{Bool, true, false, not, _&&_}
@@ -11,11 +11,9 @@ use borrow.Author.Tests.{le-leb}
 use lib.Dec.{T, leb, leb→le}
 use lib.ListN.{length}
 use Rattle.format.specs.Entry.{Entry, encode, textOf}
-use Rattle.format.specs.Limits.{fitsSizes}
 use Rattle.format.specs.Macro.{holds}
-use Rattle.format.specs.Tape.{Reading, Root, readTape, readTree, accept, read, Bytes}
-use Rattle.format.specs.Older.{printable, older, olderEntries, fitsOlder, Kind, TreeOf, rootOf, kindOf, firstCode, lastYear, acceptLastYear}
-use Rattle.format.proofs.Tests.{is-true}
+use Rattle.format.specs.Tape.{Reading, readTape, readTree, accept, read, Bytes}
+use Rattle.format.specs.Older.{printable, older, fitsOlder, Kind, TreeOf, rootOf, kindOf, firstCode, lastYear, acceptLastYear}
 use Rattle.format.proofs.Accepted.{OnTape, accepted-on-tape}
 use Rattle.format.proofs.Encodes.{fitting, length-encode}
 use Rattle.format.proofs.Rewritten.{no-holds, read-no-or, read-as, read-on-tape}
@@ -24,7 +22,7 @@ use Rattle.format.proofs.LastYear.{lawful-of, rewrites-of, ages-of, older-on-ta
 use Rattle.definition.specs.Outcome.{Outcome}
 use Rattle.definition.specs.Answers.{padded, answer, numberAlone, reading}
 use Rattle.definition.specs.Kept.{Bounded}
-use Rattle.definition.specs.Older.{unlessOut, olderOf, olderTape, resultAlone, olderAnswer, OlderResult, OlderAccepted, Copied, OlderCopies, LastYearRefuses, OlderBounded}
+use Rattle.definition.specs.Older.{unlessOut, olderOf, olderTape, resultAlone, olderAnswer, OlderResult, OlderAccepted, OlderCopies, LastYearRefuses, OlderBounded}
 use Rattle.definition.proofs.Kept.{bounded-done, bounded-number-alone}
 
 -- ------------------------------------------------------------------ what comes out

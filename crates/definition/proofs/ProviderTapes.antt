@@ -94,7 +94,7 @@ alike-bytes {es} {fs} h q = bytes-encode fs (alike-codes h) (rw (alike-text h) a
 
 -- ------------------------------------------------------------------ an argument and its term
 
-become-length : {items : Args} {ts : Terms} → BecomeAll items ts → lengthArguments items ≡ lengthTerms ts
+pub become-length : {items : Args} {ts : Terms} → BecomeAll items ts → lengthArguments items ≡ lengthTerms ts
 unfolding lengthArguments lengthTerms
 become-length no-more = refl
 become-length (one-more h k) = ap suc (become-length k)

@@ -9,11 +9,10 @@ use lib.ListN.{length, replicate}
 use lib.Seq.{take-at}
 use Rattle.format.specs.Entry.{Entry, encode}
 use Rattle.format.specs.Ast.{Tree, MacroParam, MacroDef}
-use Rattle.format.specs.Flat.{flatCondition, flatCall, flatTree, flatParams, flatDef, flatDefs, flatRegistry}
+use Rattle.format.specs.Flat.{flatCondition, flatCall, flatTree, flatParams, flatDef, flatRegistry}
 use Rattle.format.specs.Utf8.{wellTexts, openUtf8}
 use Rattle.format.specs.Tape.{Reading, Root, conditionRoot, definitionRoot, callRoot, registryRoot, read, Bytes}
-use Rattle.format.proofs.All.{All, all-nil, all-cons, all-head, all-tail, all-left, all-right, all-map}
-use Rattle.format.proofs.Accepted.{OnTape}
+use Rattle.format.proofs.All.{All, all-nil, all-cons, all-head, all-tail, all-left, all-map}
 use Rattle.format.proofs.Exact.{Lawful, lawful-condition, lawful-definition, lawful-call, lawful-registry}
 use Rattle.format.proofs.Rewritten.{Rewrites, rewrites-condition, rewrites-definition, rewrites-call, rewrites-registry, read-on-tape}
 use Rattle.format.proofs.Utf8.{all-whole, whole-all}

@@ -24,7 +24,7 @@ use Rattle.definition.specs.Library.{refusedOf, listBytes, libraryTapes,
 use Rattle.definition.specs.Merge.{joined, firstDiffering, refuseDiffering, tooLargeRegistry, merge, mergeTapes, registryTape, mergeAnswer}
 use Rattle.definition.specs.Agree.{protectedNames, sameButNames}
 use Rattle.definition.specs.Judge.{requireEqual, judge, longestName, judgeTapes, judgeAnswer}
-use Rattle.definition.specs.Whole.{WholeAnswer, WholeMessage, PreviewWhole, LibraryWhole, CheckAtWhole, MergeWhole, JudgeWhole}
+use Rattle.definition.specs.Whole.{WholeMessage, PreviewWhole, LibraryWhole, CheckAtWhole, MergeWhole, JudgeWhole}
 use Rattle.definition.proofs.Good.{good-done, good-refused}
 use Rattle.definition.proofs.Readings.{of-reading}
 use Rattle.definition.proofs.Verdicts.{Given, passes, refuses}

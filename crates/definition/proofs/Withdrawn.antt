@@ -7,9 +7,9 @@ use mathlib.Core.Path.{_≡_, refl, ap, subst}
 use mathlib.Core.List.{List, [], _∷_}
 use mathlib.Core.Bool.{Bool, true, false, not}
 use lib.Dec.{T, eqb}
-use Rattle.format.specs.Entry.{Text, Entry, entry, encode}
+use Rattle.format.specs.Entry.{Entry, entry, encode}
 use Rattle.format.specs.Ast.{Tree, MacroDef}
-use Rattle.format.specs.Flat.{flatCondition, flatTree, flatDef, flatDefs, flatRegistry}
+use Rattle.format.specs.Flat.{flatCondition, flatTree, flatDef, flatRegistry}
 use Rattle.format.specs.Limits.{isNode, weigh}
 use Rattle.format.specs.Macro.{holds, tally}
 use Rattle.format.specs.Replace.{replaceDef, replaceDefs}

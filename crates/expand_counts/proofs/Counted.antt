@@ -29,6 +29,7 @@ use Rattle.format.specs.Ast.{
 use Rattle.format.specs.Flat.{flatTexts, flatUnit, flatInterval, flatWithin, flatSlot, flatType, flatBinder, flatBinders, flatSigil, flatCmp, flatArith, flatBool, lengthTerms, lengthFields, lengthArgs, flatCondition, flatTerm, flatAgg, flatCall, flatArg, flatArgs, flatFields, flatTerms, openFlat}
 use Rattle.format.specs.Tape.{conditionRoot}
 use Rattle.format.proofs.Tests.{is-true}
+use Rattle.format.proofs.Behind.{terms-count, fields-count}
 use Rattle.tape.specs.Layouts.{holds}
 use Rattle.tape.specs.declared.layout.Layout.{Layout}
 use Rattle.tape.specs.declared.layout.Place.{Place}
@@ -42,7 +43,7 @@ use Rattle.definition.specs.Counts.{addCalls}
 use Rattle.expand_counts.specs.Counting.{raisedAt, passing, few, overAt, broughtBy, passedAt, countedAt, countFrom, countedIn}
 use Rattle.expand_counts.proofs.Adding.{Bounded, add-bounded, add-none, add-swap, add-append}
 use Rattle.expand_counts.proofs.Raising.{name-behind, raised-is}
-use Rattle.expand_counts.proofs.Items.{From, turn, taken, over-run, Items, no-items, item-terms, item-fields, item-names, long-terms, long-fields, few-is, path-is}
+use Rattle.expand_counts.proofs.Items.{From, turn, taken, over-run, Items, no-items, item-terms, item-fields, item-names, few-is, path-is}
 
 module _ (reg : List ℕ) (d : Layout) (rows : List Row) (s : List ℕ) (l : Layout) (defs : List MacroDef) (indexed : Indexed reg d rows defs) where
   abbrev At : ℕ → Place → List ℕ → List ℕ
@@ -195,7 +196,7 @@ module _ (reg : List ℕ) (d : Layout) (rows : List Row) (s : List ℕ) (l : Lay
   unfolding overAt broughtBy
   counted-fields fs =
       gathers (entry 41 (lengthFields fs)) (flatFields fs) (λ p. refl)
-      (λ p i. ap (λ (v : ℕ). 2 * v) (few-is (lengthFields fs) _ _ i (long-fields fs))) refl (item-fields reg d rows s l fs)
+      (λ p i. ap (λ (v : ℕ). 2 * v) (few-is (lengthFields fs) _ _ i (fields-count fs))) refl (item-fields reg d rows s l fs)
 
   counted-path : (code : ℕ) (path : List Text) → ((p : Place) → overAt s l p 0 code (length path) ≡ few (length path))
       → broughtBy 0 code (length path) ≡ 0 → eqb code 54 ≡ false → Counted (entry code (length path) ∷ flatTexts path) []
@@ -244,7 +245,7 @@ module _ (reg : List ℕ) (d : Layout) (rows : List Row) (s : List ℕ) (l : Lay
     counted-operand (Term.Var n) = plain (textEntry 27 n) (λ p. refl) refl refl none
     counted-operand Term.Wildcard = plain (entry 28 0) (λ p. refl) refl refl none
     counted-operand (Term.Array ts) =
-        gathers (entry 29 (lengthTerms ts)) (flatTerms ts) (λ p. refl) (λ p i. few-is (lengthTerms ts) _ _ i (long-terms ts)) refl
+        gathers (entry 29 (lengthTerms ts)) (flatTerms ts) (λ p. refl) (λ p i. few-is (lengthTerms ts) _ _ i (terms-count ts)) refl
         (item-terms reg d rows s l ts)
     counted-operand (Term.Agg a) = plain (entry 30 0) (λ p. refl) refl refl (counted-agg a)
     counted-operand (Term.Arith op a b) = plain (entry 31 (flatArith op)) (λ p. refl) refl refl (counted-operand a then counted-operand b)

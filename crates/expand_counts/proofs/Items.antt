@@ -14,6 +14,7 @@ use Rattle.format.specs.Ast.{Term, NamedArgs, Terms}
 use Rattle.format.specs.Flat.{flatTexts, flatBool, flatArith, lengthTerms, lengthFields, flatTerm, flatAgg, flatFields, flatTerms, openFlat}
 use Rattle.format.specs.Tape.{isText, textWidth}
 use Rattle.format.proofs.All.{all-head}
+use Rattle.format.proofs.Behind.{length-texts, terms-count}
 use Rattle.tape.specs.declared.layout.Layout.{Layout}
 use Rattle.tape.specs.declared.layout.Place.{Place}
 use Rattle.tape.proofs.Located.{past, past-append, past-at, Inside, inside-front, inside-back, inside-next, inside-skip}
@@ -22,23 +23,6 @@ use Rattle.tape.proofs.Trees.{passes-term}
 use Rattle.registry.specs.Places.{Row}
 use Rattle.expand_counts.specs.Counting.{passing, few, restOfTerm, overAt, broughtBy, passedAt, countedAt, countFrom}
 use Rattle.expand_counts.specs.declared.Passing.{Passing}
-
--- ------------------------------------------------------------------ how long things are
-
-pub length-texts : (ts : List Text) → length (flatTexts ts) ≡ length ts
-unfolding flatTexts
-length-texts [] = refl
-length-texts (t ∷ ts) = ap suc (length-texts ts)
-
-pub long-terms : (ts : Terms) → lengthTerms ts ≤ length (flatTerms ts)
-unfolding openFlat
-long-terms Terms.noTerms = omega arith
-long-terms (Terms.consTerm t ts) = omega (arith, long-terms ts, passes-term t .long, length-append (flatTerm t) (flatTerms ts))
-
-pub long-fields : (fs : NamedArgs) → lengthFields fs ≤ length (flatFields fs)
-unfolding openFlat
-long-fields NamedArgs.noFields = omega arith
-long-fields (NamedArgs.consField n t fs) = omega (arith, long-fields fs, length-append (flatTerm t) (flatFields fs))
 
 module _ {s : List ℕ} {l : Layout} where
   -- a list has no more items than there are entries behind its count
@@ -182,7 +166,7 @@ module _ (reg : List ℕ) (d : Layout) (rows : List Row) (s : List ℕ) (l : Lay
     item-term (Term.Var n) = tip (textEntry 27 n) (λ p items. refl) (λ items. refl) refl
     item-term Term.Wildcard = tip (entry 28 0) (λ p items. refl) (λ items. refl) refl
     item-term (Term.Array ts) =
-        brings (entry 29 (lengthTerms ts)) (λ p items. refl) (λ p items i. few-is (lengthTerms ts) _ _ i (long-terms ts)) refl (item-terms ts)
+        brings (entry 29 (lengthTerms ts)) (λ p items. refl) (λ p items i. few-is (lengthTerms ts) _ _ i (terms-count ts)) refl (item-terms ts)
     item-term (Term.Agg a) = covers (entry 30 0) (flatAgg a) (λ p items i. rw (eqb·suc-zero items) (rest-is (Term.Agg a) (entry 30 0) (flatAgg a) refl i)) (λ items. refl) refl
     item-term (Term.Arith op a b) =
         brings (entry 31 (flatArith op)) (λ p items. refl) (λ p items i. rw (eqb·suc-zero items)) refl (items-then (item-term a) (item-term b))

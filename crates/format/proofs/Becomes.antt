@@ -2,17 +2,17 @@
 -- right one, and every other entry stays. What holds of the rewritten entries is shown here once, and not of each kind of tree. The
 -- two sides are said to be conditions, so that whoever rewrites a tape can find where the left one ends.
 -- Assumes nothing.
-use Prim.Native.Nat.{ℕ, suc, _+_, _*_}
+use Prim.Native.Nat.{ℕ, _+_, _*_}
 use native.Mathlib.Omega.{arith}
 use mathlib.Core.Path.{_≡_, refl, sym, _∙_, ap, ap₂}
-use mathlib.Core.List.{List, [], _∷_, _++_, append-assoc}
+use mathlib.Core.List.{List, [], _∷_, _++_}
 use mathlib.Core.Bool.{Bool, true, false, _&&_, _||_, and-assoc, or-assoc}
 use lib.Dec.{eqb, leb, le→leb}
 use lib.ListN.{length, length-append}
-use Rattle.format.specs.Entry.{Text, Entry, entry, textEntry, textOf}
+use Rattle.format.specs.Entry.{Text, Entry, entry, textOf}
 use Rattle.format.specs.Ast.{Condition, Term, AggExpr, Call, CallArg, CallArgs, NamedArgs, Terms, Tree, MacroBody, MacroDef}
-use Rattle.format.specs.Flat.{flatTexts, flatInterval, flatWithin, flatSlot, flatBinder, flatBinders, flatCondition, flatTerm, flatAgg, flatCall, flatArg, flatArgs, flatFields, flatTerms, flatTree, flatParams, flatBody, flatDef, flatDefs, flatRegistry}
-use Rattle.format.specs.Macro.{isCode, isMacro, holdsMacro, holds, tally}
+use Rattle.format.specs.Flat.{flatCondition, flatTerm, flatAgg, flatCall, flatArg, flatArgs, flatFields, flatTerms, flatTree, flatBody, flatDef, flatDefs, flatRegistry}
+use Rattle.format.specs.Macro.{isMacro, holdsMacro, holds, tally}
 use Rattle.format.specs.Limits.{weigh}
 use Rattle.format.specs.Tape.{textsWithin}
 use Rattle.format.specs.Replace.{replaceCondition, replaceTerm, replaceAgg, replaceCall, replaceArg, replaceArgs, replaceFields, replaceTerms, replaceTree, replaceBody, replaceDef, replaceDefs}

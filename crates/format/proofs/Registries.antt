@@ -5,7 +5,7 @@ use Prim.Native.Nat.{ℕ, max, _*_, _^_, _≤_, _<_}
 use native.Mathlib.Omega.{arith}
 use mathlib.Core.Path.{_≡_, refl}
 use mathlib.Core.List.{List, [], _∷_, _++_}
-use mathlib.Core.Bool.{Bool, true, false, _&&_}
+use mathlib.Core.Bool.{Bool, false}
 use lib.Dec.{T, leb, leb→le, le→leb}
 use lib.ListN.{length, length-append}
 use Rattle.format.specs.Entry.{Text, Entry, encode, textOf}
@@ -174,28 +174,28 @@ definitions-alone bytes q ds h =
 -- ------------------------------------------------------------------ a registry of such definitions
 
 -- a definition takes four entries at the least
-length-body : (b : MacroBody) → 1 ≤ length (flatBody b)
+long-body : (b : MacroBody) → 1 ≤ length (flatBody b)
 unfolding flatBody
-length-body MacroBody.Cedar = omega arith
-length-body (MacroBody.TemporalCondition c) = omega arith
-length-body (MacroBody.TemporalValue t) = omega arith
+long-body MacroBody.Cedar = omega arith
+long-body (MacroBody.TemporalCondition c) = omega arith
+long-body (MacroBody.TemporalValue t) = omega arith
 
-length-defs : (ds : List MacroDef) → 4 * length ds ≤ length (flatDefs ds)
+pub long-defs : (ds : List MacroDef) → 4 * length ds ≤ length (flatDefs ds)
 unfolding flatDefs flatDef
-length-defs [] = omega arith
-length-defs (d ∷ ds) =
+long-defs [] = omega arith
+long-defs (d ∷ ds) =
     omega (
       arith,
-      length-defs ds,
+      long-defs ds,
       length-append (flatDef d) (flatDefs ds),
       length-append (flatParams (d .params)) (flatBody (d .body)),
-      length-body (d .body),
+      long-body (d .body),
     )
 
 -- so that a registry within the sizes has at most 255
 pub few-fit : (ds : List MacroDef) → Fits (flatRegistry ds) → length ds ≤ 255
 unfolding flatRegistry
-few-fit ds k = omega (arith, fitting (length (flatRegistry ds)) (length (textOf (flatRegistry ds))) k .0, length-defs ds)
+few-fit ds k = omega (arith, fitting (length (flatRegistry ds)) (length (textOf (flatRegistry ds))) k .0, long-defs ds)
 
 fair-flat : {ds : List MacroDef} → All FairDef ds → All Fair (flatDefs ds)
 unfolding flatDefs

@@ -8,22 +8,22 @@ use mathlib.Core.Bool.{Bool, true, false, _&&_}
 use mathlib.Core.Option.{Option, none, some}
 use lib.Dec.{T, leb, eqb, leb→le, le→leb}
 use lib.ListN.{length}
-use Rattle.format.specs.Entry.{Entry, entry, encode, textOf}
-use Rattle.format.specs.Ast.{Condition, Call, Tree, MacroDef}
+use Rattle.format.specs.Entry.{Entry, encode, textOf}
+use Rattle.format.specs.Ast.{Condition, Tree}
 use Rattle.format.specs.Flat.{flatCondition}
 use Rattle.format.specs.Limits.{nodeWeight, callWeight, fitsSizes, fitsDepths}
-use Rattle.format.specs.Macro.{holdsMacro, holds, tally}
-use Rattle.format.specs.Replace.{Replacement, replaceDef, replaceDefs}
+use Rattle.format.specs.Macro.{holds, tally}
+use Rattle.format.specs.Replace.{Replacement, replaceDef}
 use Rattle.format.specs.DeMorgan.{deMorgan, orWeight}
 use Rattle.format.specs.Build.{Stack, build}
-use Rattle.format.specs.Tape.{Reading, Root, fewParams, fewParamsEach, conditionRoot, definitionRoot, callRoot, registryRoot, treeRoot, namedRoot, longestText, longestNamed, textsWithin, shortTexts, small, readLimits, readTape, readRoot, readStack, readTree, accept, fits, rewrite, read, Bytes, rewritten}
+use Rattle.format.specs.Tape.{Reading, Root, fewParams, conditionRoot, definitionRoot, callRoot, registryRoot, treeRoot, namedRoot, longestText, longestNamed, textsWithin, shortTexts, small, readLimits, readTape, readRoot, readStack, readTree, accept, fits, rewrite, read, Bytes, rewritten}
 use Rattle.format.specs.Rewritten.{Rewriting, weighted, mapReading, ReadAs}
-use Rattle.format.proofs.All.{All, all-nil, all-cons, all-both}
+use Rattle.format.proofs.All.{All, all-nil, all-cons}
 use Rattle.format.proofs.Tests.{and-left, and-right, and-both, or-none, or-neither, is-true}
 use Rattle.format.proofs.Spells.{flatStack, s-at-root, build-spells}
-use Rattle.format.proofs.Accepted.{InRange, OnTape, accepted-on-tape, Accepts, was-malformed, was-too-large, was-accepted, Entries, reads-tape}
+use Rattle.format.proofs.Accepted.{OnTape, accepted-on-tape, Accepts, was-accepted, Entries, reads-tape}
 use Rattle.format.proofs.Encodes.{fitting}
-use Rattle.format.proofs.Exact.{Lawful, within-limits, on-tape-accepted, lawful-condition, lawful-named, lawful-definition, lawful-call, lawful-registry, lawful-tree}
+use Rattle.format.proofs.Exact.{Lawful, within-limits, on-tape-accepted, lawful-condition, lawful-named}
 use Rattle.format.proofs.Utf8.{all-whole, whole-all}
 use Rattle.format.proofs.Counts.{few-each}
 use Rattle.format.proofs.Becomes.{Becomes, becomes-condition, becomes-call, becomes-tree, becomes-definition, becomes-registry, same-text, more-entries, all-become, NoOr, become-no-or, same-macros, same-texts}

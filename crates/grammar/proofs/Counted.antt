@@ -2,7 +2,7 @@
 -- subtree each wait only on top of it, or behind one entry: that of texts behind a span, that of arguments behind a text.
 -- Assumes nothing.
 use Prim.Native.Nat.{ℕ, zero, suc, _+_, _-_, _*_, _/_, _%_, _≤_, _<_}
-use mathlib.Core.Path.{_≡_, refl, ap, sym, subst, _∙_}
+use mathlib.Core.Path.{_≡_, refl, ap, subst}
 use mathlib.Core.Bool.{Bool, true, false, not, _&&_, _||_}
 use mathlib.Core.List.{List, [], _∷_, _++_}
 use native.Mathlib.Decide.{decLt}
@@ -12,7 +12,7 @@ use lib.Dec.{T, leb, ltb, eqb, leb→le, ltb→lt, nltb→le, eqb→eq}
 use lib.ListN.{getD, replicate, List·getD-eq-default}
 use Rattle.format.specs.Tape.{textWidth}
 use Rattle.format.proofs.Tests.{and-left, and-right, and-both, from-true, is-true}
-use Rattle.grammar.specs.Counts.{dueOf, hasPairs, countWords, stepWith, stepIn}
+use Rattle.grammar.specs.Counts.{dueOf, hasPairs, countWords, stepWith}
 use Rattle.grammar.specs.Grammar.{Follows, once, each, sortsOf, span, text, field, binding, texts, arguments}
 use Rattle.grammar.specs.Pick.{pick}
 use Rattle.grammar.specs.Waits.{counted}

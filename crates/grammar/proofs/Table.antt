@@ -4,9 +4,6 @@
 use mathlib.Core.Path.{_≡_, refl, subst}
 use mathlib.Core.Bool.{Bool, true, false, _&&_}
 use Prim.Native.Nat.{ℕ, zero, suc, _+_, _≤_, _<_}
-use mathlib.Core.List.{List, [], _∷_, map}
-use native.Mathlib.Nat.{not-suc-le-zero, le-of-suc-le-suc}
-use lib.ListN.{length, getD}
 use native.Mathlib.Decide.{ℕ-discrete}
 use native.Mathlib.Omega.{arith}
 use lib.Dec.{T}
@@ -40,9 +37,3 @@ same-eq false false t = refl
 pub decided : (f : ℕ → Bool) (b : Bool) (low n : ℕ) → T (every (λ (k : ℕ). same b (f k)) low n)
     → (k : ℕ) → low ≤ k → k < low + n → b ≡ f k
 decided f b low n t k h₁ h₂ = same-eq b (f k) (at (λ (m : ℕ). same b (f m)) low n t k h₁ h₂)
-
--- an entry of a table of numbers that is computed from a table of records
-pub tabled : {A B : Type 0} (f : A → B) (l : List A) (d : A) (z : B) (k : ℕ) → k < length l → getD (map f l) k z ≡ f (getD l k d)
-tabled f [] d z k h = absurd (not-suc-le-zero h)
-tabled f (x ∷ l) d z zero h = refl
-tabled f (x ∷ l) d z (suc k) h = tabled f l d z k (le-of-suc-le-suc h)

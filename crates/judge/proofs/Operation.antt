@@ -1,8 +1,7 @@
 -- The operation's answer is what the definition says: a buffer is too short; one of the first two tapes is refused; the third is; the
 -- expansion is refused; the supplied tape is our result but for names, or it is not.
 -- Assumes nothing.
-use Prim.Native.Nat.{ℕ, zero, suc, _^_, _≤_, _<_}
-use native.Mathlib.Omega.{arith}
+use Prim.Native.Nat.{ℕ, zero, suc, _^_, _<_}
 use mathlib.Core.Path.{_≡_, refl, sym, ap, ap₂, subst, _∙_}
 use mathlib.Core.List.{List, []}
 use mathlib.Core.Bool.{Bool, true, false}
@@ -10,10 +9,10 @@ use lib.ListN.{getD}
 use Rattle.format.specs.Entry.{encode}
 use Rattle.format.specs.Ast.{Condition, MacroDef, Tree}
 use Rattle.format.specs.Flat.{flatCondition, flatTree}
-use Rattle.format.specs.Rewritten.{weighted, mapReading}
+use Rattle.format.specs.Rewritten.{weighted}
 use Rattle.format.specs.Tape.{Reading, Root, conditionRoot, namedRoot, registryRoot, accept, read, rewritten, Bytes}
-use Rattle.format.proofs.Exact.{Lawful, lawful-registry, lawful-condition, lawful-named}
-use Rattle.format.proofs.Rewritten.{Rewrites, rewrites-registry, rewrites-condition, rewrites-named, read-as}
+use Rattle.format.proofs.Exact.{lawful-registry, lawful-condition, lawful-named}
+use Rattle.format.proofs.Rewritten.{rewrites-registry, rewrites-condition, rewrites-named}
 use Rattle.definition.specs.Outcome.{Refusal, refusal, Outcome, proceed}
 use Rattle.definition.specs.Answers.{Answer, Buffers, padded, answer, numberAlone, reading, longBuffers, treeAnswer, expandTapes, expandAnswer}
 use Rattle.definition.specs.Expand.{expand}
@@ -25,20 +24,15 @@ use Rattle.tape.specs.Accept.{acceptNamed}
 use Rattle.tape.specs.declared.header.Opened.{Opened}
 use Rattle.tape.specs.declared.header.Opened.the-variants as opened
 use Rattle.tape.specs.declared.layout.Layout.{Layout}
-use Rattle.tape.proofs.Roots.{Accepted, registry-root, condition-root, named-root, accepted-root, bytes-all}
+use Rattle.format.proofs.Accepted.{bytes-all}
+use Rattle.tape.proofs.Roots.{Accepted, registry-root, condition-root, named-root, accepted-root}
 use Rattle.answer.specs.Matches.{buffers, ended}
 use Rattle.answer.specs.Tapes.{acceptTwo}
 use Rattle.answer.specs.declared.tapes.Accepted.the-variants.{Both, Refused}
-use Rattle.answer.proofs.Operations.{refused-tape, first-accepted, second-accepted, read-rewritten, read-two, long-enough, ends-refused, tree-short, tree-refused}
+use Rattle.answer.proofs.Operations.{refused-tape, accepted-read, first-accepted, second-accepted, read-rewritten, read-two, long-enough, ends-refused, tree-short, tree-refused}
 use Rattle.judge_names.specs.Compared.{equalIn}
-use Rattle.judge_names.proofs.Compared.{Kept, equal-is}
+use Rattle.judge_names.proofs.Compared.{equal-is}
 use Rattle.judge.proofs.Own.{refused-number, kept}
-
--- an accepted tape is read as its rewriting
-accepted-read : {A : Type 0} {root : Root A} → Rewrites root → Lawful root → (s : List ℕ) → Bytes s → {x : A}
-    → accept (weighted root) s ≡ Reading.accepted x → read root s ≡ Reading.accepted (rewritten root x)
-unfolding mapReading
-accepted-read {root = root} w law s bytes e = read-as root w law s bytes .one-scan ∙ ap (mapReading (rewritten root)) e
 
 -- names are measured by a figure
 longest-limited : (file : ℕ) → isLimited (longestName file) ≡ true

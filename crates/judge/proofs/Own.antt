@@ -16,7 +16,7 @@ use Rattle.format.specs.Names.{isName, rename, renameEntry}
 use Rattle.format.specs.Tape.{Reading, conditionRoot, namedRoot, registryRoot, fromLe, read, Bytes}
 use Rattle.format.proofs.Accepted.{Values64, OnTape, accepted-on-tape}
 use Rattle.format.proofs.All.{All, all-nil, all-cons, all-head, all-tail, all-map, all-both}
-use Rattle.format.proofs.Encodes.{WellTexted, well-tree, fitting, fromLe-le}
+use Rattle.format.proofs.Encodes.{well-tree, fitting, fromLe-le}
 use Rattle.format.proofs.Exact.{lawful-named}
 use Rattle.format.proofs.Rewritten.{rewrites-named, read-from, read-on-tape}
 use borrow.Author.Tests.{le-leb}
@@ -25,7 +25,7 @@ use Rattle.definition.specs.Answers.{Answer, Buffers, padded, answer, reading, 
 use Rattle.definition.specs.Expand.{expand}
 use Rattle.definition.specs.Judge.{judge, longestName, judgeAnswer, Equal, OnTapes}
 use Rattle.definition.specs.Preview.{Preview, entriesIn, textIn, preview, previewAnswer, sizesOnly}
-use Rattle.definition.proofs.Agree.{NamesTexted, names-texted}
+use Rattle.definition.proofs.Agree.{names-texted}
 use Rattle.definition.proofs.Judge.{judge-exact, judge-on-tapes, same-tree}
 use Rattle.definition.proofs.OwnResult.{own-result}
 use Rattle.definition.proofs.Preview.{previews}

@@ -2,8 +2,8 @@
 -- Assumes nothing.
 use Prim.Native.Nat.{ℕ, _-_, _≤_, _<_, _^_}
 use native.Mathlib.Omega.{arith}
-use mathlib.Core.Path.{_≡_, refl, ap, _∙_}
-use mathlib.Core.List.{List, [], _++_}
+use mathlib.Core.Path.{_≡_, refl, ap}
+use mathlib.Core.List.{List, []}
 use mathlib.Core.Bool.{Bool, true, false, _&&_}
 use borrow.Author.Tests.{le-leb}
 use lib.Dec.{T, eqb, eqb→eq}
@@ -12,8 +12,6 @@ use lib.Seq.{take-append-seam}
 use Rattle.format.specs.Entry.{Entry, le, textOf, encode}
 use Rattle.format.specs.Ast.{Condition, MacroDef}
 use Rattle.format.specs.Flat.{flatCondition}
-use Rattle.format.specs.Names.{namesIn}
-use Rattle.format.specs.Stands.{part}
 use Rattle.format.specs.Tape.{Root, fromLe, conditionRoot, namedRoot, registryRoot, rewritten}
 use Rattle.format.proofs.Accepted.{Values64}
 use Rattle.format.proofs.Encodes.{WellTexted, fromLe-le}
@@ -30,7 +28,6 @@ use Rattle.tape.proofs.Located.{Alone}
 use Rattle.tape.proofs.Roots.{Accepted, registry-root, condition-root, named-root}
 use Rattle.de_morgan.specs.Rewritten.{rewrittenIn, rewrittenLayout}
 use Rattle.de_morgan.proofs.Rewritten.{tape-inside, rewritten-alone, given-alone}
-use Rattle.judge_names.specs.Entries.{sameIn}
 use Rattle.judge_names.specs.Compared.{resultLayout, equalOn, noneHasOr, equalIn}
 use Rattle.judge_names.proofs.Entries.{Whole, same-are}
 

@@ -6,14 +6,13 @@ use native.Mathlib.Omega.{arith}
 use native.Mathlib.Numerals.{add-one}
 use mathlib.Core.Path.{_≡_, refl, sym, ap, ap₂, _∙_}
 use mathlib.Core.List.{List, [], _∷_, _++_}
-use mathlib.Core.Bool.{Bool, true, _&&_}
+use mathlib.Core.Bool.{true}
 use lib.ListN.{length, length-append}
 use borrow.Author.Tests.{le-leb}
 use Rattle.format.specs.Entry.{Entry, textOf}
-use Rattle.format.specs.Tape.{isText, textWidth}
 use Rattle.format.proofs.All.{all-head}
 use Rattle.format.proofs.Tests.{is-true}
-use Rattle.tape.specs.Layouts.{holds, codeAt, valueAt, widthAt}
+use Rattle.tape.specs.Layouts.{holds, widthAt}
 use Rattle.tape.specs.declared.layout.Layout.{Layout}
 use Rattle.tape.proofs.Holding.{holding}
 use Rattle.tape.proofs.Located.{past, Inside, inside-next}
@@ -21,7 +20,7 @@ use Rattle.tape.proofs.Runs.{place, run-code, run-value}
 use Rattle.nodes.proofs.Entries.{is-spelled}
 use Rattle.format.specs.Names.{namesIn}
 use Rattle.definition.specs.Agree.{sameButNames}
-use Rattle.judge_names.specs.Entries.{textBehind, textAt, spelledAt, entryAt, entriesFrom, entriesIn, sameIn}
+use Rattle.judge_names.specs.Entries.{textAt, spelledAt, entryAt, entriesFrom, entriesIn, sameIn}
 
 module _ {s : List ℕ} {l : Layout} where
   width-is : {i text : ℕ} {e : Entry} {es : List Entry} → Inside s l (place i text) (e ∷ es) → widthAt s l i ≡ length (e .text)

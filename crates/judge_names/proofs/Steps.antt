@@ -4,7 +4,7 @@ use Prim.Native.Nat.{ℕ, zero, suc, _+_, _-_, _≤_, _<_}
 use native.Mathlib.Omega.{arith}
 use native.Mathlib.Nat.{sub-zero}
 use native.Mathlib.Numerals.{add-one}
-use mathlib.Core.Path.{_≡_, refl, sym, ap, ap₂, _∙_}
+use mathlib.Core.Path.{_≡_, refl, sym, ap, _∙_}
 use mathlib.Core.List.{List, [], _∷_, _++_}
 use mathlib.Core.Bool.{Bool, true, false, not, _&&_, _||_, Bool·beq}
 use lib.Dec.{T, eqb}
@@ -26,6 +26,7 @@ use Rattle.tape.proofs.Holding.{held}
 use Rattle.format.proofs.Tests.{and-left, and-right, from-true}
 use Rattle.format.specs.Names.{isName, namesIn}
 use Rattle.definition.specs.Agree.{Pair, pairOf, consistent, consistentWith, fits, equalEntry, sameButNames}
+use Rattle.definition.proofs.Texts.{contains-append, contains-names}
 use Rattle.judge_names.specs.Entries.{textBehind, textAt, spelledAt, entryAt, entriesFrom, entriesIn, pair, pairAt, pairsBefore, agreesAt, protectedIn, sameIn}
 
 -- ------------------------------------------------------------------ the entries of a tape
@@ -69,28 +70,6 @@ module _ (s : List ℕ) (l : Layout) (at text : ℕ) {code : ℕ} {x : Bool} (c 
   pub is-no-name : (name : Text) → x ≡ false → false ≡ (isName (codeAt s l at) && eqText (spelledAt s l at text) name)
   is-no-name name f = rw (← c, ← e, f) refl
 
--- a name in front of others, or another entry
-contains-first : (e : Entry) (es : List Entry) (name : Text)
-    → contains (namesIn (e ∷ es)) name ≡ ((isName (e .code) && eqText (e .text) name) || contains (namesIn es) name)
-unfolding namesIn contains
-contains-first e es name = go (isName (e .code))
-  where
-    go : (x : Bool)
-        → contains (elim x [ true ↦ e .text ∷ namesIn es | false ↦ namesIn es ]) name
-        ≡ ((x && eqText (e .text) name) || contains (namesIn es) name)
-    go true = refl
-    go false = refl
-
-pub contains-append : (xs ys : List Text) (name : Text) → contains (xs ++ ys) name ≡ (contains xs name || contains ys name)
-unfolding contains
-contains-append [] ys name = refl
-contains-append (x ∷ xs) ys name = go (eqText x name) (contains-append xs ys name)
-  where
-    go : (b : Bool) → contains (xs ++ ys) name ≡ (contains xs name || contains ys name)
-        → (b || contains (xs ++ ys) name) ≡ ((b || contains xs name) || contains ys name)
-    go true e = refl
-    go false e = e
-
 module _ (s : List ℕ) (l : Layout) (name : Text) (at text : ℕ) {whole : Bool}
     (inv : contains (namesIn (entriesFrom s l at (l .entries - at))) name ≡ whole) where
   pub no-names-left : l .entries ≤ at → false ≡ whole
@@ -103,7 +82,7 @@ module _ (s : List ℕ) (l : Layout) (name : Text) (at text : ℕ) {whole : Bool
     unfolding entryAt
     turned =
         rw (e, its)
-        (sym (contains-first (entryAt s l at) (entriesFrom s l (at + 1) (l .entries - (at + 1))) name)
+        (sym (contains-names (entryAt s l at) (entriesFrom s l (at + 1) (l .entries - (at + 1))) name)
         ∙ rw (entries-step s l at (l .entries) h) at inv)
 
     pub name-found : b ≡ true → true ≡ whole

@@ -3,16 +3,15 @@
 -- Assumes nothing.
 use Prim.Native.Nat.{ℕ, zero, suc, _+_, _-_}
 use mathlib.Core.List.{List, [], _∷_, _++_}
-use mathlib.Core.Bool.{Bool, true, false, _&&_}
+use mathlib.Core.Bool.{Bool, false, _&&_}
 use lib.Dec.{leb, eqb}
 use Rattle.format.specs.Entry.{Text, Entry}
-use Rattle.definition.specs.Text.{eqText}
 use Rattle.tape.specs.Pick.{pick}
 use Rattle.tape.specs.Layouts.{holds, codeAt, valueAt, widthAt}
 use Rattle.tape.specs.declared.layout.Layout.{Layout}
 use Rattle.nodes.specs.Node.{nameAt}
 use Rattle.format.specs.Names.{isName, namesIn}
-use Rattle.definition.specs.Agree.{Pair, pairOf, consistent, fits, equalEntry, sameButNames}
+use Rattle.definition.specs.Agree.{Pair, pairOf, fits, equalEntry, sameButNames}
 
 -- ------------------------------------------------------------------ entries
 

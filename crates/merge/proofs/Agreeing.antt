@@ -10,14 +10,16 @@ use lib.Dec.{eqb}
 use lib.ListN.{length}
 use borrow.Author.Tests.{eq-eqb, eqb-true, eqb-false}
 use Rattle.grammar.specs.Grammar as grammar
-use Rattle.format.specs.Entry.{Text, Entry, entry, textEntry}
+use Rattle.format.specs.Entry.{Text, Entry, entry}
 use Rattle.format.specs.Ast.{MacroDef}
 use Rattle.format.specs.Flat.{flatParams, flatBody, flatDef}
 use Rattle.format.specs.Macro.{isCode}
 use Rattle.format.proofs.All.{all-head}
+use Rattle.format.proofs.Tests.{from-true}
 use Rattle.definition.specs.Text.{eqText}
 use Rattle.definition.specs.Registry.{get}
 use Rattle.definition.specs.Merge.{isSpanned, unlessSpan, eraseSpan, eraseSpans, eqEntries, agrees}
+use Rattle.definition.proofs.Texts.{text-equal}
 use Rattle.message_parts.proofs.Order.{eq-refl}
 use Rattle.tape.specs.Pick.{pick}
 use Rattle.tape.specs.declared.layout.Layout.{Layout}
@@ -32,7 +34,7 @@ use Rattle.nodes.proofs.Placed.{headingEntries, parts-def}
 use Rattle.registry.specs.Places.{Row, keyOf, endOf, getAt}
 use Rattle.registry.specs.declared.Found.{Found}
 use Rattle.registry.specs.declared.Found.the-variants.{Definition, Nothing}
-use Rattle.registry.proofs.Standing.{Indexed, indexed-nil, indexed-cons, Ended, ended-nil, ended-cons, same-text, other-key}
+use Rattle.registry.proofs.Standing.{Indexed, indexed-nil, indexed-cons, Ended, ended-nil, ended-cons, other-key}
 use Rattle.merge.specs.Agree.{sameHead, textAt, alikeAt, onAlike, sameFrom, agreeAt, againstFound, compareAt}
 use Rattle.merge.specs.declared.agree.Alike.the-variants.{Both, Differ}
 use Rattle.merge.specs.declared.agree.Compared.{Compared}
@@ -146,7 +148,7 @@ get-whole {s} {l} (indexed-cons {r = r} {rs = rs} {d = d} {ds = ds} i k h) (ende
     go : (b : Bool) → eqText (d .name) name ≡ b → {head : Heading} {params : Place} → FoundAs s l name (getAt s l rs name) (get ds name)
         → Stood s l head params (endOf l rs) d
         → FoundAs s l name (pick b (Definition head params (endOf l rs)) (getAt s l rs name)) (elim b [ true ↦ some d | false ↦ get ds name ])
-    go true q rest f = found-whole f (same-text (d .name) name q)
+    go true q rest f = found-whole f (text-equal (d .name) name (from-true q))
     go false q rest f = rest
 
     by-key : (t : Bool) → eqb (r .key) (keyOf name) ≡ t → {head : Heading} {params : Place} → FoundAs s l name (getAt s l rs name) (get ds name)

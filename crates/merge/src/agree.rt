@@ -13,12 +13,12 @@ use nodes::read_heading;
 use nodes::same_text;
 use registry::Found;
 use registry::get;
+use subst_state::run::distance;
 use tape::layout::Layout;
 use tape::layout::Place;
 use tape::scan::Skipped;
 use tape::scan::skip;
 ghost use mathlib.Core.Path.{_≡_};
-ghost use Prim.Native.Nat.{_-_};
 ghost use Rattle.definition.specs.Merge.{isSpanned, unlessSpan};
 ghost use Rattle.registry.specs.Places.{rowsIn};
 ghost use Rattle.merge.specs.Agree.{sameHead, textAt, alikeAt, sameFrom, agreeAt, compareAt};
@@ -123,13 +123,6 @@ fn same_entries(
     true
 }
 
-// How many entries there are from one to another.
-fn entries_between(from: usize, to: usize) -> usize
-    ensures { λ r. ⌜ r ≡ to - from ⌝ }
-{
-    if from < to { to - from } else { 0 }
-}
-
 // Whether two definitions of one name agree, whose heads were read: what stands behind the heads up to `end` on the first tape, and up
 // to `to` on the second. The heads themselves are a span, the name, and the number of parameters.
 fn agree(
@@ -149,8 +142,8 @@ fn agree(
     if g.count != h.count {
         return false;
     }
-    let n = entries_between(from.at, end);
-    if n != entries_between(other.at, to) {
+    let n = distance(from.at, end);
+    if n != distance(other.at, to) {
         return false;
     }
     same_entries(s, d, from, t, e, other, n)

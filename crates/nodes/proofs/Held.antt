@@ -2,7 +2,7 @@
 -- Assumes nothing.
 use Prim.Native.Nat.{ℕ, _+_, _*_, _≤_, _<_}
 use mathlib.Core.Path.{_≡_, refl, sym, _∙_}
-use mathlib.Core.Bool.{Bool, true, false, not, _&&_}
+use mathlib.Core.Bool.{Bool, true, false, not}
 use mathlib.Core.List.{List}
 use borrow.Author.Tests.{eq-eqb, ne-eqb, not-false}
 use lib.Dec.{ltb, eqb, ltb→lt, leb→le}
@@ -14,9 +14,7 @@ use Rattle.tape.specs.Pick.{pick}
 use Rattle.tape.specs.declared.layout.Layout.{Layout}
 use Rattle.tape.specs.declared.layout.Place.{Place}
 use Rattle.nodes.specs.Node.{hasEntry, hasText, onEntry, entryAt, expectAt}
-use Rattle.nodes.specs.declared.EntryRead.{EntryRead}
 use Rattle.nodes.specs.declared.EntryRead.the-variants.{Entry, End}
-use Rattle.nodes.specs.declared.ValueRead.{ValueRead}
 use Rattle.nodes.specs.declared.ValueRead.the-variants.{Value, Nothing}
 
 -- what the two tests say

@@ -29,8 +29,8 @@ ghost use Rattle.answer.specs.Matches.{answerWith};
 ghost use Rattle.profile.specs.Entries.{argsAt, headAt, brokenRule, profileAll, profileIn, profiled};
 ghost use Rattle.profile.specs.Spans.{spansIn};
 
-pub mod around;
-pub mod rules;
+mod around;
+mod rules;
 
 // A number with a span, no message, nothing charged.
 fn end(number: u32, span: u64) -> Answer

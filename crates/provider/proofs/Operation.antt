@@ -13,9 +13,7 @@ use Rattle.format.specs.Ast.{Term}
 use Rattle.format.specs.DeMorgan.{deMorgan}
 use Rattle.format.specs.Entry.{Entry, encode, textOf}
 use Rattle.format.specs.Flat.{flatTerm}
-use Rattle.format.specs.Limits.{fitsSizes}
 use Rattle.format.specs.Provider.{Arg, Provider, flatArgument}
-use Rattle.format.specs.Rewritten.{weighted}
 use Rattle.format.specs.Tape.{Reading, Root, providerRoot, argumentRoot, termRoot, accept, read, Bytes}
 use Rattle.format.proofs.Accepted.{InRange, accepted-on-tape}
 use Rattle.format.proofs.Encodes.{fitting, length-encode}

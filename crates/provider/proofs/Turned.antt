@@ -11,15 +11,16 @@ use lib.ListN.{length, take, drop, length-append, length-map}
 use lib.Seq.{sets, sets-eq, take-at, drop-at}
 use Rattle.format.specs.Ast.{Term, Terms}
 use Rattle.format.specs.Entry.{Text, Entry, le, codesOf, valuesOf, textOf, encode}
-use Rattle.format.specs.Flat.{flatTerm, flatTerms, lengthTerms}
+use Rattle.format.specs.Flat.{flatTerm, flatTerms}
 use Rattle.format.specs.Macro.{isCode}
-use Rattle.format.specs.Provider.{Arg, Args, lengthArguments, flatArgument, flatArguments}
+use Rattle.format.specs.Provider.{Arg, Args, flatArgument, flatArguments}
 use Rattle.format.specs.Stands.{part}
 use Rattle.format.proofs.Accepted.{length-codes}
 use Rattle.format.proofs.Encodes.{length-le}
 use Rattle.definition.specs.Provider.{argumentToTerm, termToArgument, turn}
 use Rattle.definition.specs.ProviderPromises.{isNone, anyCode, isField, isForeign}
 use Rattle.definition.proofs.Provider.{Becomes, string, integer, decimal, bool, set, BecomeAll, no-more, one-more, becomes, became, fields-only, foreign-only}
+use Rattle.definition.proofs.ProviderTapes.{become-length}
 use Rattle.tape.specs.Pick.{pick}
 use Rattle.tape.specs.declared.layout.Layout.{Layout}
 use Rattle.provider.specs.Turned.{termCode, argumentCode, turnedCode, anyLost, codesIn, turnedIn}
@@ -99,11 +100,6 @@ module _ (es : List Entry) where
       (append-assoc (le 4 (length es)) (le 4 (length (textOf es))) (map (turnedCode back) (codesOf es) ++ behind))
 
 -- ------------------------------------------------------------------ an argument and its term
-
-become-length : {items : Args} {ts : Terms} → BecomeAll items ts → lengthArguments items ≡ lengthTerms ts
-unfolding lengthArguments lengthTerms
-become-length no-more = refl
-become-length (one-more h k) = ap suc (become-length k)
 
 mutual
   unfolding flatArgument flatTerm

@@ -1,24 +1,26 @@
 -- Where a registry stands, its index has the places of its definitions, and a name finds the definition that `Registry::get` finds.
 -- Assumes nothing.
-use Prim.Native.Nat.{ℕ, suc, _+_, _*_, _≤_}
+use Prim.Native.Nat.{ℕ, suc, _+_, _≤_}
 use native.Mathlib.Nat.{add-zero, zero-add}
 use native.Mathlib.Omega.{arith}
 use mathlib.Core.Path.{_≡_, refl, sym, ap, _∙_}
 use mathlib.Core.List.{List, [], _∷_, _++_}
-use mathlib.Core.Bool.{Bool, true, false, _&&_, false≢true}
+use mathlib.Core.Bool.{Bool, true, false}
 use mathlib.Core.Option.{Option, none, some}
-use lib.Dec.{leb, eqb}
+use lib.Dec.{T, leb, eqb}
 use lib.ListN.{length, take, length-append}
 use lib.Seq.{take-all}
-use borrow.Author.Tests.{le-leb, eqb-true, eqb-false}
+use borrow.Author.Tests.{le-leb, eqb-false}
 use Rattle.format.specs.Entry.{Text, Entry, entry, textEntry, textOf}
-use Rattle.format.specs.Ast.{MacroBody, MacroDef}
-use Rattle.format.specs.Flat.{flatParams, flatBody, flatDef, flatDefs, flatRegistry, openFlat}
+use Rattle.format.specs.Ast.{MacroDef}
+use Rattle.format.specs.Flat.{flatParams, flatBody, flatDef, flatDefs, flatRegistry}
 use Rattle.format.specs.Tape.{isText, textWidth, registryRoot}
 use Rattle.format.proofs.All.{all-nil, all-cons, all-head, all-append}
 use Rattle.format.proofs.Tests.{is-true}
+use Rattle.format.proofs.Registries.{long-defs}
 use Rattle.definition.specs.Text.{eqText}
 use Rattle.definition.specs.Registry.{get}
+use Rattle.definition.proofs.Texts.{text-equal}
 use Rattle.tape.specs.Pick.{pick}
 use Rattle.tape.specs.Layouts.{holds}
 use Rattle.nodes.specs.Node.{nameAt}
@@ -127,25 +129,6 @@ module _ {s : List ℕ} {l : Layout} where
 
 -- ------------------------------------------------------------------ how many definitions a tape has
 
-long-body : (b : MacroBody) → 1 ≤ length (flatBody b)
-unfolding openFlat
-long-body MacroBody.Cedar = omega arith
-long-body (MacroBody.TemporalCondition c) = omega arith
-long-body (MacroBody.TemporalValue t) = omega arith
-
--- four entries each at the least
-long-defs : (ds : List MacroDef) → 4 * length ds ≤ length (flatDefs ds)
-unfolding flatDefs flatDef
-long-defs [] = omega arith
-long-defs (d ∷ ds) =
-    omega (
-      arith,
-      long-defs ds,
-      long-body (d .body),
-      length-append (flatDef d) (flatDefs ds),
-      length-append (flatParams (d .params)) (flatBody (d .body)),
-    )
-
 few-defs : {s : List ℕ} {l : Layout} (ds : List MacroDef) → Inside s l (place 0 0) (flatRegistry ds) → length ds ≤ 255
 unfolding flatRegistry
 few-defs ds i = omega (arith, long-defs ds, i .run .entries-left, i .run .held .entries-most)
@@ -196,25 +179,13 @@ module _ (s : List ℕ) (l : Layout) where
     finds-nothing : Finds Nothing none
     finds : {h : Heading} {params : Place} {end : ℕ} {d : MacroDef} → Defined h params d → Finds (Definition h params end) (some d)
 
--- texts that are spelt alike are equal
-pub same-text : (a b : Text) → eqText a b ≡ true → a ≡ b
-unfolding eqText
-same-text [] [] e = refl
-same-text [] (y ∷ b) e = absurd (false≢true e)
-same-text (x ∷ a) [] e = absurd (false≢true e)
-same-text (x ∷ a) (y ∷ b) e = go (eqb x y) (eqb-true x y) (same-text a b) e
-  where
-    go : (t : Bool) → (t ≡ true → x ≡ y) → (eqText a b ≡ true → a ≡ b) → (t && eqText a b) ≡ true → x ∷ a ≡ y ∷ b
-    go true f g h = rw (f refl, g h)
-    go false f g h = absurd (false≢true h)
-
 -- names with other keys are other names
 pub other-key : (r : Row) (a b : Text) → r .key ≡ keyOf a → eqb (r .key) (keyOf b) ≡ false → eqText a b ≡ false
-other-key r a b e f = go (eqText a b) (same-text a b)
+other-key r a b e f = go (eqText a b) (text-equal a b)
   where
-    go : (t : Bool) → (t ≡ true → a ≡ b) → t ≡ false
+    go : (t : Bool) → (T t → a ≡ b) → t ≡ false
     go false h = refl
-    go true h = absurd (eqb-false (r .key) (keyOf b) f (e ∙ ap keyOf (h refl)))
+    go true h = absurd (eqb-false (r .key) (keyOf b) f (e ∙ ap keyOf (h tt)))
 
 module _ {s : List ℕ} {l : Layout} where
   pub get-finds : {rs : List Row} {ds : List MacroDef} → Indexed s l rs ds → (name : Text) → Finds s l (getAt s l rs name) (get ds name)

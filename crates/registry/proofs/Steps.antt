@@ -16,6 +16,7 @@ use Rattle.format.specs.Tape.{isText, textWidth}
 use Rattle.definition.specs.Text.{eqText}
 use Rattle.definition.specs.Check.{contains}
 use Rattle.definition.specs.Registry.{reservedNames}
+use Rattle.definition.proofs.Texts.{contains-append}
 use Rattle.tape.specs.Pick.{pick}
 use Rattle.tape.specs.Layouts.{holds, codeAt, valueAt}
 use Rattle.nodes.specs.Node.{onHeading, headingAt, nameAt}
@@ -244,16 +245,6 @@ or-last {r} {x} e = e ∙ go x
     go false = refl
 
 -- the names of a list, some and then the others
-contains-append : (xs ys : List Text) (name : Text) → contains (xs ++ ys) name ≡ (contains xs name || contains ys name)
-unfolding contains
-contains-append [] ys name = refl
-contains-append (x ∷ xs) ys name = go (eqText x name) (contains-append xs ys name)
-  where
-    go : (b : Bool) → contains (xs ++ ys) name ≡ (contains xs name || contains ys name)
-        → (b || contains (xs ++ ys) name) ≡ ((b || contains xs name) || contains ys name)
-    go true e = refl
-    go false e = e
-
 module _ (k : ℕ) (xs : List Text) (name : Text) {b : Bool} (e : b ≡ contains (take k xs) name) where
   split : contains xs name ≡ (contains (take k xs) name || contains (drop k xs) name)
   split = ap (λ (ys : List Text). contains ys name) (sym (take-append-drop k xs)) ∙ contains-append (take k xs) (drop k xs) name

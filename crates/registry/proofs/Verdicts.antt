@@ -9,12 +9,14 @@ use native.Mathlib.Omega.{arith}
 use lib.ListN.{length}
 use Rattle.format.specs.Entry.{Text}
 use Rattle.format.specs.Ast.{MacroDef}
+use Rattle.format.proofs.Tests.{from-true}
 use Rattle.definition.specs.Text.{eqText}
 use Rattle.definition.specs.Outcome.{refusal}
 use Rattle.definition.specs.Check as definition
 use Rattle.definition.specs.Check.{_andThen_, contains}
 use Rattle.definition.specs.Messages.{reservedName}
 use Rattle.definition.specs.Registry.{reservedNames, get, checkReserved, checkDuplicate, buildFrom, build}
+use Rattle.definition.proofs.Texts.{text-equal}
 use Rattle.tape.specs.Pick.{pick}
 use Rattle.nodes.specs.Node.{nameAt}
 use Rattle.tape.specs.declared.layout.Layout.{Layout}
@@ -28,7 +30,7 @@ use Rattle.answer.specs.declared.Verdict.{Verdict}
 use Rattle.answer.specs.declared.Verdict.the-variants.{Refused}
 use Rattle.registry.specs.Places.{Row, duplicateOf, andThenIn, checkAt, buildFromAt, buildAt}
 use Rattle.registry.specs.declared.Found.{Found}
-use Rattle.registry.proofs.Standing.{Indexed, indexed-nil, indexed-cons, indexed-snoc, same-text, Finds, finds-nothing, finds, get-finds}
+use Rattle.registry.proofs.Standing.{Indexed, indexed-nil, indexed-cons, indexed-snoc, Finds, finds-nothing, finds, get-finds}
 
 -- ------------------------------------------------------------------ the order of the definitions before
 
@@ -61,7 +63,7 @@ get-new ds d name e = go (eqText (d .name) name) refl
     go : (t : Bool) → eqText (d .name) name ≡ t → elim t [ true ↦ some d | false ↦ get ds name ] ≡ get (ds ++ d ∷ []) name
     go true h =
         let found : get (ds ++ d ∷ []) (d .name) ≡ some d = get-behind ds d (d .name) e ∙ rw (get, eq-refl (d .name)) in
-        rw (← (same-text (d .name) name h)) (sym found)
+        rw (← (text-equal (d .name) name (from-true h))) (sym found)
     go false h = sym (get-other ds d name h)
 
 -- ------------------------------------------------------------------ the verdicts

@@ -19,7 +19,7 @@ use Rattle.format.proofs.Rewritten.{rewrites-registry, read-as}
 use Rattle.definition.specs.Text.{eqText}
 use Rattle.definition.specs.Outcome.{openOutcome}
 use Rattle.definition.specs.Registry.{get, build}
-use Rattle.definition.specs.Answers.{Answer, answer, messageAlone, numberAlone, reading, verdict, messageAnswer, registryAnswer, openAnswers}
+use Rattle.definition.specs.Answers.{Answer, answer, messageAlone, numberAlone, reading, verdict, registryAnswer, openAnswers}
 use Rattle.grammar.specs.Grammar as grammar
 use Rattle.tape.specs.Accept.{acceptOf}
 use Rattle.tape.specs.declared.header.Opened.{Opened}
@@ -35,7 +35,7 @@ use Rattle.registry.specs.declared.Found.{Found}
 use Rattle.registry.specs.declared.Found.the-variants.{Nothing}
 use Rattle.nodes.specs.declared.Heading.{Heading}
 use Rattle.registry.proofs.Standing.{Defined, Finds, finds-nothing, finds, get-finds, indexed-registry}
-use Rattle.registry_held.specs.Held.{layoutOf, Holds, of-tape, of-nothing, Builds, Describes, FoundMatches, GetMatches}
+use Rattle.registry_held.specs.Held.{layoutOf, of-tape, of-nothing, Builds, Describes, FoundMatches, GetMatches}
 use Rattle.registry_held.specs.declared.Built.{Built}
 
 -- ------------------------------------------------------------------ building

@@ -11,7 +11,7 @@ use lib.ListN.{length, take, drop, length-append, length-take, length-drop, take
 use lib.Seq.{take-at, drop-at, drop-drop}
 use Rattle.format.specs.Entry.{le}
 use Rattle.format.specs.Tape.{fromLe, Bytes}
-use Rattle.format.proofs.Accepted.{bytes-drop}
+use Rattle.format.proofs.Accepted.{bytes-drop, le-front}
 use Rattle.format.proofs.Encodes.{length-le, fromLe-le}
 use Rattle.format.proofs.Tests.{and-left, and-right, or-none, or-neither, from-true, is-true}
 use Rattle.definition.specs.Answers.{Answer, answer, messageAlone, numberAlone, registryAnswer}
@@ -20,7 +20,6 @@ use Rattle.definition.proofs.Kept.{registry-bounded, bounded-number-alone}
 use Rattle.answer.specs.Matches.{ended}
 use Rattle.sheet.specs.Sheet.{conditionsOf, sheetOf, sizeOf, beginsWithOne, firstOf, widthOf, filledBy, over, filled, sheetNumber, sheetOpenAnswer}
 use Rattle.sheet.specs.Promises.{IsSheet, SheetsAreOpened, OpenedAreSheets, OpenBounded}
-use Rattle.sheet.proofs.Lower.{le-front}
 use Rattle.sheet.proofs.Front.{tells-one, one-stands, first-one, width-one}
 use Rattle.sheet.proofs.Opening.{number-filled, open-registry-refused, open-sheet-refused, open-passes}
 
@@ -70,7 +69,7 @@ short-length h k = omega arith
 -- the number at the front, as bytes again
 front : (s : List ℕ) → Bytes s → 4 ≤ length s → le 4 (sizeOf s) ≡ take 4 s
 unfolding sizeOf
-front s q h = le-front 4 s h q
+front s q h = le-front 4 s h q .0
 
 -- ------------------------------------------------------------------ sheets are opened
 

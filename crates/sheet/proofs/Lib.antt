@@ -1,7 +1,6 @@
--- The theorems first, then what the proofs of functions cite, and last what belongs below.
+-- The theorems first, then what the proofs of functions cite.
 pub mod Promises
 pub mod Exactly
 mod Front
 mod Opening
 mod Stepping
-mod Lower

@@ -7,13 +7,14 @@ use mathlib.Core.Logic.{_≢_}
 use mathlib.Core.List.{List, [], _∷_}
 use mathlib.Core.Bool.{Bool, true, false, not, _||_}
 use lib.Dec.{eqb}
-use lib.ListN.{length, replicate, length-append}
+use lib.ListN.{length, replicate}
 use borrow.Author.Tests.{eqb-true, not-false}
 use Rattle.grammar.specs.Grammar as grammar
 use Rattle.format.specs.Entry.{Text, Entry, entry}
 use Rattle.format.specs.Ast.{Condition, Term, Call, CallArg, CallArgs, Tree, MacroBody, MacroDef}
-use Rattle.format.specs.Flat.{lengthArgs, flatCondition, flatTerm, flatArgs, flatCall, flatTree, flatParams, flatBody, flatDef}
+use Rattle.format.specs.Flat.{lengthArgs, flatCondition, flatTerm, flatCall, flatTree, flatParams, flatBody, flatDef}
 use Rattle.format.specs.Limits.{nodeWeight, callWeight, deepCondition, deepTerm, deepTree, deepBody, fitsAll, tooLargeTree}
+use Rattle.format.proofs.Behind.{args-count}
 use Rattle.definition.specs.Outcome.{refusal, Outcome, pure, proceed, _>>_, openOutcome}
 use Rattle.definition.specs.Messages.{cedarInCondition, argumentCount}
 use Rattle.definition.specs.Size.{size, bodySize}
@@ -171,15 +172,6 @@ body-at MacroBody.Cedar h = parts-body MacroBody.Cedar h
 body-at (MacroBody.TemporalCondition c) h = parts-body (MacroBody.TemporalCondition c) h .read
 body-at (MacroBody.TemporalValue t) h = parts-body (MacroBody.TemporalValue t) h .read
 
--- an argument has an entry at least
-count-args : (args : CallArgs) → lengthArgs args ≤ length (flatArgs args)
-unfolding lengthArgs flatCondition
-count-args CallArgs.noArgs = omega arith
-count-args (CallArgs.consArg (CallArg.ConditionArg c) rest) = omega
-    (arith, count-args rest, length-append (flatCondition c) (flatArgs rest))
-count-args (CallArgs.consArg (CallArg.TermArg t) rest) = omega (arith, count-args rest, length-append (flatTerm t) (flatArgs rest))
-count-args (CallArgs.consArg (CallArg.WithinArg i) rest) = omega (arith, count-args rest)
-
 -- ------------------------------------------------------------------ a definition and a call
 
 module _ (dm : MacroDef) {def : List ℕ} {l : Layout} {p : Place} (h : Inside def l p (flatDef dm)) where
@@ -270,7 +262,7 @@ module _ (dm : MacroDef) (span : ℕ) (name : Text) (args : CallArgs) (limit fil
   count-refusal-matches few t k =
       let run = parts-call span name args g .parts .runs .first .run in
       let wanted : length (dm .params) % 2 ^ 32 ≡ length (dm .params) = omega arith in
-      let got : lengthArgs args % 2 ^ 32 ≡ lengthArgs args = omega (arith, count-args args, run .entries-left, run .held .entries-most) in
+      let got : lengthArgs args % 2 ^ 32 ≡ lengthArgs args = omega (arith, args-count args, run .entries-left, run .held .entries-most) in
       record { its-number = refl; its-span = refl; its-message = rw (parts-def dm h .spelled, wanted, got) }
 
   module _ (few : length (dm .params) ≤ 16) (bytes : List ℕ) (w : Written (areaIn (emptyAt 0) bytes) []) where

@@ -1,6 +1,6 @@
 -- The fold of a refinement: the count of the predicate's fields is raised in place, and of any other condition it is 47.
 -- Assumes nothing.
-use Prim.Native.Nat.{ℕ, suc, _+_, _≤_}
+use Prim.Native.Nat.{ℕ, _+_, _≤_}
 use native.Mathlib.Omega.{arith}
 use mathlib.Core.Path.{_≡_, refl, sym, ap, _∙_}
 use mathlib.Core.List.{List, [], _∷_, _++_, append-assoc}
@@ -15,6 +15,7 @@ use Rattle.format.specs.Macro.{isCode}
 use Rattle.format.specs.Tape.{isText, textWidth}
 use Rattle.format.proofs.Accepted.{Values64}
 use Rattle.format.proofs.All.{all-nil, all-cons, all-tail, all-append, all-left, all-right}
+use Rattle.format.proofs.Behind.{length-texts, fields-count}
 use Rattle.format.proofs.Stands.{text-append, stands-front, stands-back}
 use Rattle.definition.specs.Outcome.{refusal}
 use Rattle.definition.specs.Messages.{conditionShape, notAPredicate}
@@ -56,17 +57,6 @@ count-append : (fs gs : NamedArgs) → lengthFields (appendFields fs gs) ≡ len
 unfolding appendFields lengthFields
 count-append NamedArgs.noFields gs = omega arith
 count-append (NamedArgs.consField n t fs) gs = omega (arith, count-append fs gs)
-
--- a field has an entry at least
-count-flat : (fs : NamedArgs) → lengthFields fs ≤ length (flatFields fs)
-unfolding lengthFields flatCondition
-count-flat NamedArgs.noFields = omega arith
-count-flat (NamedArgs.consField n t fs) = omega (arith, count-flat fs, length-append (flatTerm t) (flatFields fs))
-
-length-texts : (ts : List Text) → length (flatTexts ts) ≡ length ts
-unfolding flatTexts
-length-texts [] = refl
-length-texts (t ∷ ts) = ap suc (length-texts ts)
 
 -- ------------------------------------------------------------------ the fields that are added
 
@@ -150,8 +140,8 @@ module _ (es : List Entry) (s o : ℕ) (ns : List Text) (action kind : Text) (fs
           length-front,
           length-append front (entry 41 (lengthFields fs) ∷ behind),
           length-append (flatFields fs) (flatFields gs),
-          count-flat fs,
-          count-flat gs,
+          fields-count fs,
+          fields-count gs,
         )
 
     namespace-stands : Inside (P .bytes) (areaLayout (P .out .base) (P .out .n) (P .out .t)) (place (length es + 2) 0)

@@ -14,7 +14,7 @@ ghost use Rattle.tape.specs.Pick.{pick};
 ghost use Rattle.subst_state.specs.Output.{copyIn};
 
 // How far `to` is behind `from`.
-fn distance(from: usize, to: usize) -> usize
+pub fn distance(from: usize, to: usize) -> usize
     ensures { λ r. ⌜ r ≡ to - from ⌝ }
 {
     if from < to { to - from } else { 0 }

@@ -1,9 +1,9 @@
 -- Provider tapes (document 02, point 11): what a scan by their table passes over, and the trees of its sorts, from entries back.
 -- Assumes nothing.
 use Prim.Native.Nat.{ℕ}
-use mathlib.Core.Path.{_≡_, refl}
-use mathlib.Core.Bool.{Bool, true, false}
-use mathlib.Core.List.{List, [], _∷_, _++_}
+use mathlib.Core.Path.{refl}
+use mathlib.Core.Bool.{Bool, true}
+use mathlib.Core.List.{List, [], _∷_}
 use lib.Dec.{eqb}
 use lib.ListN.{length, replicate}
 use Rattle.format.specs.Entry.{Text, Entry, entry, textEntry}
@@ -20,6 +20,7 @@ use Rattle.grammar.proofs.ProviderMarks.{isArgument, provider}
 use Rattle.tape.proofs.Found.{Language}
 use Rattle.tape.proofs.Passing.{PassesBy, none, _then_, _before_, node, tip, plain}
 use Rattle.tape.proofs.Shapes.{Shape, shape, noShape, Typed, flatAt, All, joined-all, valued-as, spanned, spelt, Listed, listed, counting, bool, Each, end, _by_&_, Built, Cases, built}
+use Rattle.tape.proofs.Trees.{bool-valued}
 
 -- ------------------------------------------------------------------ what a scan passes over
 
@@ -46,11 +47,6 @@ each-text : (ts : List Text) → Passes (replicate (length ts) sort.text) (flatT
 unfolding flatTexts
 each-text [] = none
 each-text (t ∷ ts) = passes-text t before each-text ts
-
-bool-valued : (b : Bool) → valued 2 (flatBool b) ≡ true
-unfolding flatBool
-bool-valued false = refl
-bool-valued true = refl
 
 mutual
   unfolding decides flatArgument lengthArguments deepArgument

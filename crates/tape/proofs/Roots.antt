@@ -1,12 +1,12 @@
 -- The four roots of document 01 and a lone term, and what an accepted slice holds.
 -- Assumes nothing.
-use Prim.Native.Nat.{ℕ, suc, _+_, _*_, _≤_, _<_}
+use Prim.Native.Nat.{ℕ, _+_, _*_, _≤_}
 use mathlib.Core.Path.{_≡_, refl, ap, sym, _∙_, subst}
 use mathlib.Core.Bool.{Bool, true, _&&_, and-assoc}
 use mathlib.Core.List.{List, [], _∷_}
 use native.Mathlib.Omega.{arith}
 use lib.Dec.{T, leb, leb→le}
-use lib.ListN.{length, getD}
+use lib.ListN.{length}
 use Rattle.format.specs.Entry.{Entry, encode, textOf}
 use Rattle.format.specs.Ast.{MacroDef}
 use Rattle.format.specs.DeMorgan.{orWeight}
@@ -26,7 +26,6 @@ use Rattle.grammar.specs.Words.{temporalWords}
 use Rattle.grammar.specs.Waits.{isLimited}
 use Rattle.grammar.proofs.Marks.{longest-marks, longest-64}
 use Rattle.tape.specs.Accept.{acceptNamed}
-use Rattle.tape.specs.Header.{entriesOf}
 use Rattle.tape.specs.Layouts.{tapeLayout}
 use Rattle.tape.specs.declared.header.Opened.{Opened}
 use Rattle.tape.specs.declared.header.Opened.the-variants.{Tape}
@@ -240,11 +239,6 @@ module _ {A : Type 0} {root : Root A} {longest sort : ℕ} (r : RootNamed longes
           tape-eq h = (cc)
 
 -- ------------------------------------------------------------------ for those who build on it
-
--- a slice's elements are bytes: `bytes-all s (λ i. c .. .shared-slice-known .given i .fits)`
-pub bytes-all : (s : List ℕ) → ((i : ℕ) → getD s i 0 < 256) → Bytes s
-bytes-all [] h = tt
-bytes-all (b ∷ s) h = (h 0, bytes-all s (λ i. h (suc i)))
 
 -- what keeps to the limits is at most 64 nodes deep
 pub nesting-64 : (nodes calls : ℕ) → T (fitsDepths nodes calls) → nodes ≤ 64

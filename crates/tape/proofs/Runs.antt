@@ -23,7 +23,7 @@ use Rattle.grammar.specs.Words.{temporalWords}
 use Rattle.grammar.proofs.Counted.{start-counts}
 use Rattle.grammar.proofs.Marks.{Table, temporal}
 use Rattle.tape.specs.Pick.{pick}
-use Rattle.tape.specs.Scan.{scanOf, scanFrom, starts, scanAt, behind, skipIn, skipAt, overOf, tooDeepIn}
+use Rattle.tape.specs.Scan.{scanOf, scanFrom, starts, scanAt, skipAt, overOf, tooDeepIn}
 use Rattle.tape.specs.Skip.{countFrom}
 use Rattle.tape.specs.declared.layout.Layout.{Layout}
 use Rattle.tape.specs.declared.layout.Place.{Place}
@@ -112,11 +112,6 @@ module _ {t : Table} {s : List ℕ} {l : Layout} {p : Place} {es : List Entry} {
       stops : (rest : List Entry) {at text : ℕ} {o : Bool} → scanOf (t .words) 0 (l .size) rest [] at text o ≡ Ends (place at text) o
       stops [] = refl
       stops (e ∷ more) = refl
-
-  -- to skip a tree is to come to the place behind it
-  pub skip-run : PassesBy t (sort ∷ []) es d x → sort < 32 → Run s l p es
-      → skipIn (t .words) s l p sort ≡ At (place (p .at + length es) (p .text + length (textOf es)))
-  skip-run b h r = ap behind (scan-run b h r)
 
 -- the same by counting, for a tree of document 01
 pub count-run : {s : List ℕ} {l : Layout} {p : Place} {es : List Entry} {sort : ℕ} {d : (ℕ → ℕ) → ℕ} {x : Bool}

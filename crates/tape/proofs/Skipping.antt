@@ -1,7 +1,7 @@
 -- A count of subtrees ends where the scan does, and what one turn of it does.
 -- Assumes nothing.
 use Prim.Native.Nat.{ℕ, zero, suc, _+_, _-_, _≤_, _<_}
-use mathlib.Core.Path.{_≡_, refl, ap, sym, subst, _∙_}
+use mathlib.Core.Path.{_≡_, refl, ap, sym, subst}
 use mathlib.Core.Bool.{Bool, true, false, _&&_, _||_}
 use mathlib.Core.List.{List, [], _∷_, _++_}
 use native.Mathlib.Omega.{arith}
@@ -11,8 +11,7 @@ use lib.ListN.{length}
 use Rattle.format.specs.Entry.{Entry}
 use Rattle.format.proofs.Tests.{and-left, and-right, from-true, is-true}
 use Rattle.grammar.specs.Counts.{countWords, stepIn}
-use Rattle.grammar.specs.Grammar.{sortsOf}
-use Rattle.grammar.specs.Words.{temporalWords, rowAt, inSort, valuesOf, widthOf, followsOf}
+use Rattle.grammar.specs.Words.{temporalWords, inSort, valuesOf, followsOf}
 use Rattle.grammar.specs.Waits.{Wait, waits, headOf, valued, counted, accepts, exceeds, below}
 use Rattle.grammar.specs.declared.count.Counted.{Counted}
 use Rattle.grammar.specs.declared.count.Counted.the-variants.{Refused, On}
@@ -21,9 +20,8 @@ use Rattle.grammar.proofs.Counted.{Counts, step-counts, none-waits, some-waits,
 use Rattle.tape.specs.Layouts.{codeAt, valueAt, widthBy, entriesAt}
 use Rattle.tape.specs.Pick.{pick}
 use Rattle.tape.specs.Scan.{scanOf}
-use Rattle.tape.specs.Skip.{countFrom, onCounted}
+use Rattle.tape.specs.Skip.{countFrom}
 use Rattle.tape.specs.declared.layout.Layout.{Layout}
-use Rattle.tape.specs.declared.layout.Place.{Place}
 use Rattle.tape.specs.declared.scan.Scanned.{Scanned}
 use Rattle.tape.specs.declared.scan.Scanned.the-variants.{Ends, Malformed}
 use Rattle.tape.specs.declared.scan.Skipped.{Skipped}

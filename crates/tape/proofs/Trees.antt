@@ -1,8 +1,8 @@
 -- A scan passes over the entries that spell a tree: a clause for each constructor.
 -- Assumes nothing.
-use Prim.Native.Nat.{ℕ, max}
+use Prim.Native.Nat.{ℕ}
 use mathlib.Core.Path.{_≡_, refl, subst, _∙_}
-use mathlib.Core.Bool.{Bool, true, false, not, _&&_, and-true}
+use mathlib.Core.Bool.{Bool, true, false, not, and-true}
 use mathlib.Core.List.{List, [], _∷_}
 use lib.Dec.{leb, ltb}
 use lib.ListN.{length, replicate}
@@ -120,7 +120,7 @@ arith-valued ArithOp.Add = refl
 arith-valued ArithOp.Sub = refl
 arith-valued ArithOp.Mul = refl
 
-bool-valued : (b : Bool) → valued 2 (flatBool b) ≡ true
+pub bool-valued : (b : Bool) → valued 2 (flatBool b) ≡ true
 unfolding flatBool
 bool-valued false = refl
 bool-valued true = refl

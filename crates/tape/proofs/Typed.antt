@@ -3,7 +3,7 @@
 use Prim.Native.Nat.{ℕ, zero, suc}
 use mathlib.Core.Path.{_≡_, refl}
 use mathlib.Core.Bool.{true}
-use mathlib.Core.List.{List, [], _∷_, _++_}
+use mathlib.Core.List.{List, [], _∷_}
 use native.Mathlib.Omega.{arith}
 use borrow.Author.Tests.{ltb-true}
 use lib.Dec.{ltb}
@@ -31,7 +31,7 @@ use Rattle.format.specs.Ast.{
   MacroBody,
   MacroDef,
 }
-use Rattle.format.specs.Flat.{flatTexts, flatInterval, flatWithin, flatSlot, flatType, flatBinder, flatBinders, flatSigil, flatCmp, flatArith, flatBool, lengthTerms, lengthFields, lengthArgs, flatCondition, flatTerm, flatAgg, flatCall, flatArg, flatArgs, flatFields, flatTerms, flatParams, flatBody, flatDef, flatDefs, flatRegistry, openFlat}
+use Rattle.format.specs.Flat.{flatTexts, flatInterval, flatWithin, flatSlot, flatType, flatBinder, flatBinders, flatSigil, flatCmp, flatArith, lengthTerms, lengthFields, lengthArgs, flatCondition, flatTerm, flatAgg, flatCall, flatArg, flatArgs, flatFields, flatTerms, flatParams, flatBody, flatDef, flatDefs, flatRegistry, openFlat}
 use Rattle.format.specs.Macro.{isCode}
 use Rattle.format.specs.Tape.{isText, textWidth}
 use Rattle.grammar.specs.Grammar as sort

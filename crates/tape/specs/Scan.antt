@@ -50,14 +50,6 @@ starts s l from sort =
 abbrev pub scanAt : List ℕ → List ℕ → Layout → Place → ℕ → ℕ → Scanned
 scanAt g s l from sort longest = pick (starts s l from sort) (scanFrom g s l from sort longest) Malformed
 
--- the place behind a subtree
-abbrev pub behind : Scanned → Skipped
-behind (Ends p over) = At p
-behind Malformed = Nowhere
-
-abbrev pub skipIn : List ℕ → List ℕ → Layout → Place → ℕ → Skipped
-skipIn g s l from sort = behind (scanAt g s l from sort 0)
-
 -- the tree at the start of a layout passes a largest figure of a result
 abbrev pub overOf : Scanned → Bool
 overOf (Ends p over) = over

@@ -29,7 +29,7 @@ ghost use lib.ListN.{length};
 ghost use Rattle.format.specs.Stands.{part};
 ghost use Rattle.grammar.specs.Stack.{cell};
 ghost use Rattle.tape.specs.Layouts.{headAt};
-ghost use Rattle.tape.specs.Scan.{scanAt, scanFrom, skipAt, skipIn, starts, textPasses, tooDeep, tooDeepIn};
+ghost use Rattle.tape.specs.Scan.{scanAt, scanFrom, skipAt, starts, textPasses, tooDeep, tooDeepIn};
 ghost use Rattle.tape.specs.Turn.{CanTurn, Starts, Turned};
 
 // Where the entries of a sort end, and whether they pass a largest figure; or they are none.
@@ -235,16 +235,6 @@ pub fn scan(grammar: &[u64], s: &[u8], l: Layout, from: Place, sort: u64, longes
     } else {
         Scanned::Malformed
     }
-}
-
-// The place behind the subtree of a sort that stands at a place, by any table.
-pub fn skip_in(grammar: &[u64], s: &[u8], l: Layout, from: Place, sort: u64) -> Skipped
-    ensures { λ r. ⌜ r ≡ skipIn (now (grammar .entry)) (now (s .entry)) l from sort ⌝ }
-{
-    let Scanned::Ends(p, _) = scan(grammar, s, l, from, sort, 0) else {
-        return Skipped::Nowhere;
-    };
-    Skipped::At(p)
 }
 
 // Whether the tree of a sort at the start of a layout passes a largest figure of a result, by any table: nesting, or calls inside the

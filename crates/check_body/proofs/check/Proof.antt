@@ -7,7 +7,8 @@ use Rattle.format.specs.Tape.{definitionRoot}
 use Rattle.definition.specs.Answers.{checkAnswer}
 use Rattle.definition.specs.Check.{checkDef}
 use Rattle.definition.proofs.Withdrawn.{check-as-given}
-use Rattle.tape.proofs.Roots.{definition-root, bytes-all}
+use Rattle.format.proofs.Accepted.{bytes-all}
+use Rattle.tape.proofs.Roots.{definition-root}
 use Rattle.answer.proofs.Operations.{message-short, message-refused}
 use Rattle.check_body.proofs.Operation.{checked-definition}
 use Rattle.check_body.proofs.check.Statement.{statement}

@@ -3,7 +3,7 @@
 use native.Mathlib.Omega.{arith}
 use mathlib.Core.Path.{sym, _∙_}
 use borrow.Author.Needs.{needs}
-use Rattle.tape.proofs.Roots.{bytes-all}
+use Rattle.format.proofs.Accepted.{bytes-all}
 use Rattle.answer.proofs.Operations.{message-short}
 use Rattle.definition.specs.Library.{checkAtAnswer}
 use Rattle.check_library.proofs.Operation.{check-refused, checked}

@@ -3,7 +3,7 @@
 use native.Mathlib.Omega.{arith}
 use mathlib.Core.Path.{sym, _∙_}
 use borrow.Author.Needs.{needs}
-use Rattle.tape.proofs.Roots.{bytes-all}
+use Rattle.format.proofs.Accepted.{bytes-all}
 use Rattle.check_library.proofs.Operation.{short-result, short-message, library-refused, library-listed}
 use Rattle.check_library.proofs.check_library.Statement.{statement}
 use Rattle.check_library.proofs.check_library.Tie as tie

@@ -5,7 +5,7 @@ use borrow.Author.Tests.{not-true, not-false}
 use denote.Ref.{now}
 use mathlib.Core.Path.{refl, sym, _∙_}
 use Rattle.definition.specs.Answers.{numberAlone}
-use Rattle.tape.proofs.Roots.{bytes-all}
+use Rattle.format.proofs.Accepted.{bytes-all}
 use Rattle.expand_counts.proofs.Adding.{all-bounded}
 use Rattle.expansion.proofs.Operation.{short, refused, expanded, expanded-rewritten}
 use Rattle.expansion.proofs.expand_lent.Statement.{statement}

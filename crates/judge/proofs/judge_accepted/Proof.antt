@@ -2,7 +2,7 @@
 -- Assumes nothing.
 use borrow.Author.Needs.{needs}
 use denote.Ref.{now}
-use Rattle.tape.proofs.Roots.{bytes-all}
+use Rattle.format.proofs.Accepted.{bytes-all}
 use Rattle.judge.proofs.Operation.{answers-refused, answers-equal, answers-other, same-buffers}
 use Rattle.judge.proofs.judge_accepted.Statement.{statement}
 use Rattle.judge.proofs.judge_accepted.Tie as tie

@@ -3,7 +3,7 @@
 use borrow.Author.Needs.{needs}
 use denote.Ref.{now}
 use Rattle.definition.specs.Answers.{numberAlone}
-use Rattle.tape.proofs.Roots.{bytes-all}
+use Rattle.format.proofs.Accepted.{bytes-all}
 use Rattle.judge.proofs.Operation.{as-opened, third-refused}
 use Rattle.judge.proofs.judge_third.Statement.{statement}
 use Rattle.judge.proofs.judge_third.Tie as tie

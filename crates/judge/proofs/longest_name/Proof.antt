@@ -1,7 +1,6 @@
 -- `judge::longest_name` meets its contract.
 -- Assumes nothing.
 use Prim.Native.Nat.{ℕ, zero, suc}
-use native.Mathlib.Omega.{arith}
 use mathlib.Core.Path.{_≡_, refl}
 use Rattle.definition.specs.Judge.{longestName}
 use Rattle.judge.proofs.longest_name.Statement.{statement}

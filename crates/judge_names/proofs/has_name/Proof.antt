@@ -3,7 +3,7 @@
 use Prim.Native.Nat.{_-_, _≤_}
 use native.Mathlib.Omega.{arith}
 use borrow.Author.Needs.{needs}
-use mathlib.Core.Path.{_≡_, refl, ap}
+use mathlib.Core.Path.{_≡_, refl}
 use Rattle.definition.specs.Check.{contains}
 use Rattle.format.specs.Names.{namesIn}
 use Rattle.judge_names.specs.Entries.{textAt, entriesFrom, entriesIn}

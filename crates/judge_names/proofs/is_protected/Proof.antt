@@ -1,7 +1,6 @@
 -- `judge_names::is_protected` meets its contract.
 -- Assumes nothing.
 use borrow.Author.Needs.{needs}
-use denote.Ref.{now}
 use Rattle.judge_names.proofs.Steps.{first-names, other-names}
 use Rattle.judge_names.proofs.is_protected.Statement.{statement}
 use Rattle.judge_names.proofs.is_protected.Tie as tie

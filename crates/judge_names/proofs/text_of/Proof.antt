@@ -1,6 +1,5 @@
 -- `judge_names::text_of` meets its contract.
 -- Assumes nothing.
-use mathlib.Core.Path.{_∙_, ap}
 use borrow.Author.Needs.{needs}
 use Rattle.judge_names.proofs.text_of.Statement.{statement}
 use Rattle.judge_names.proofs.text_of.Tie as tie

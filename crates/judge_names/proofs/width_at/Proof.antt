@@ -1,6 +1,5 @@
 -- `judge_names::width_at` meets its contract.
 -- Assumes nothing.
-use mathlib.Core.Path.{refl}
 use borrow.Author.Needs.{needs}
 use Rattle.judge_names.proofs.width_at.Statement.{statement}
 use Rattle.judge_names.proofs.width_at.Tie as tie

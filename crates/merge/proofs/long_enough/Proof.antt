@@ -1,8 +1,7 @@
 -- `merge::long_enough` meets its contract.
 -- Assumes nothing.
-use borrow.Author.Needs.{needs}
 use borrow.Author.Tests.{lt-leb, le-leb}
-use mathlib.Core.Path.{_≡_, refl}
+use mathlib.Core.Path.{refl}
 use Rattle.merge.proofs.long_enough.Statement.{statement}
 use Rattle.merge.proofs.long_enough.Tie as tie
 

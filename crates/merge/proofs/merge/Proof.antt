@@ -4,7 +4,7 @@ use Rattle.answer.specs.Matches.{ended}
 use Rattle.definition.specs.Answers.{numberAlone}
 use Rattle.answer.proofs.Ends.{without-work}
 use Rattle.merge.proofs.Operation.{short, refused, given, given-or}
-use Rattle.tape.proofs.Roots.{bytes-all}
+use Rattle.format.proofs.Accepted.{bytes-all}
 use borrow.Author.Needs.{needs}
 use borrow.Author.Tests.{not-true, not-false}
 use denote.Ref.{now}

@@ -3,7 +3,7 @@
 use borrow.Author.Needs.{needs}
 use denote.Ref.{now}
 use mathlib.Core.Path.{sym, _∙_}
-use Rattle.tape.proofs.Roots.{bytes-all}
+use Rattle.format.proofs.Accepted.{bytes-all}
 use Rattle.older.proofs.Operation.{short, refused, given, given-or, sort-told}
 use Rattle.older.proofs.older.Statement.{statement}
 use Rattle.older.proofs.older.Tie as tie

@@ -3,7 +3,7 @@
 use mathlib.Core.Path.{sym, _∙_}
 use borrow.Author.Needs.{needs}
 use denote.Ref.{now}
-use Rattle.tape.proofs.Roots.{bytes-all}
+use Rattle.format.proofs.Accepted.{bytes-all}
 use Rattle.profile.proofs.Operation.{refused, given, given-or}
 use Rattle.profile.proofs.profile.Statement.{statement}
 use Rattle.profile.proofs.profile.Tie as tie

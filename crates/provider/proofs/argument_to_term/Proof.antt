@@ -3,7 +3,7 @@
 use mathlib.Core.Path.{sym, _∙_}
 use borrow.Author.Needs.{needs}
 use denote.Ref.{now}
-use Rattle.tape.proofs.Roots.{bytes-all}
+use Rattle.format.proofs.Accepted.{bytes-all}
 use Rattle.provider.proofs.Operation.{argument-short, argument-given, argument-refused}
 use Rattle.provider.proofs.argument_to_term.Statement.{statement}
 use Rattle.provider.proofs.argument_to_term.Tie as tie

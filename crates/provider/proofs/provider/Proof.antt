@@ -3,7 +3,7 @@
 use mathlib.Core.Path.{sym, _∙_}
 use borrow.Author.Needs.{needs}
 use denote.Ref.{now}
-use Rattle.tape.proofs.Roots.{bytes-all}
+use Rattle.format.proofs.Accepted.{bytes-all}
 use Rattle.answer.proofs.Ends.{no-buffers}
 use Rattle.provider.proofs.Operation.{provider-accepted, provider-refused}
 use Rattle.provider.proofs.provider.Statement.{statement}

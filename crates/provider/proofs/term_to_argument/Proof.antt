@@ -3,7 +3,7 @@
 use mathlib.Core.Path.{sym, _∙_}
 use borrow.Author.Needs.{needs}
 use denote.Ref.{now}
-use Rattle.tape.proofs.Roots.{bytes-all}
+use Rattle.format.proofs.Accepted.{bytes-all}
 use Rattle.provider.proofs.Operation.{term-short, term-given, term-refused}
 use Rattle.provider.proofs.term_to_argument.Statement.{statement}
 use Rattle.provider.proofs.term_to_argument.Tie as tie

@@ -7,7 +7,8 @@ use Rattle.format.specs.Tape.{registryRoot}
 use Rattle.definition.specs.Registry.{build}
 use Rattle.definition.specs.Answers.{registryAnswer}
 use Rattle.definition.proofs.Withdrawn.{registry-as-given}
-use Rattle.tape.proofs.Roots.{registry-root, bytes-all}
+use Rattle.format.proofs.Accepted.{bytes-all}
+use Rattle.tape.proofs.Roots.{registry-root}
 use Rattle.answer.proofs.Operations.{message-short, message-refused}
 use Rattle.registry.proofs.Answers.{built}
 use Rattle.registry.proofs.answer_names.Statement.{statement}

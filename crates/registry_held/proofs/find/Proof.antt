@@ -2,7 +2,7 @@
 -- Assumes nothing.
 use borrow.Author.Needs.{needs}
 use denote.Ref.{now}
-use Rattle.tape.proofs.Roots.{bytes-all}
+use Rattle.format.proofs.Accepted.{bytes-all}
 use Rattle.registry_held.proofs.Registries.{nothing-found, name-found}
 use Rattle.registry_held.proofs.find.Statement.{statement}
 use Rattle.registry_held.proofs.find.Tie as tie

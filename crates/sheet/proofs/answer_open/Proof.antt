@@ -3,7 +3,7 @@
 use mathlib.Core.Path.{sym, _∙_}
 use borrow.Author.Needs.{needs}
 use denote.Ref.{now}
-use Rattle.sheet.proofs.Lower.{bytes-all}
+use Rattle.format.proofs.Accepted.{bytes-all}
 use Rattle.sheet.proofs.Opening.{open-registry-refused, open-sheet-refused-behind, open-passes}
 use Rattle.sheet.proofs.answer_open.Statement.{statement}
 use Rattle.sheet.proofs.answer_open.Tie as tie

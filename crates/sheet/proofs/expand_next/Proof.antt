@@ -2,7 +2,7 @@
 -- Assumes nothing.
 use borrow.Author.Needs.{needs}
 use denote.Ref.{now}
-use Rattle.sheet.proofs.Lower.{bytes-all}
+use Rattle.format.proofs.Accepted.{bytes-all}
 use Rattle.sheet.proofs.Stepping.{expanded, counted, charged-within}
 use Rattle.sheet.proofs.expand_next.Statement.{statement}
 use Rattle.sheet.proofs.expand_next.Tie as tie

@@ -5,7 +5,7 @@ use borrow.Author.Tests.{not-true, not-false}
 use denote.Ref.{now}
 use mathlib.Core.Path.{refl, sym, _∙_}
 use Rattle.definition.specs.Answers.{numberAlone, substituteAnswer}
-use Rattle.tape.proofs.Roots.{bytes-all}
+use Rattle.format.proofs.Accepted.{bytes-all}
 use Rattle.answer.proofs.Operations.{tree-short}
 use Rattle.substitution.proofs.Operation.{refused, substituted, substituted-rewritten}
 use Rattle.substitution.proofs.substitute.Statement.{statement}

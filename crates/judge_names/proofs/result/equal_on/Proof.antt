@@ -1,7 +1,6 @@
 -- `judge_names::result::equal_on` meets its contract.
 -- Assumes nothing.
 use borrow.Author.Needs.{needs}
-use mathlib.Core.Path.{refl}
 use Rattle.judge_names.specs.Compared.{equalOn}
 use Rattle.judge_names.proofs.result.equal_on.Statement.{statement}
 use Rattle.judge_names.proofs.result.equal_on.Tie as tie

@@ -9,10 +9,10 @@ returns : tie.Need-returns
 returns c = counts-differ _ _ _ _ _ _ _ _ _ _ (c .if1 .taken)
 
 returns-2 : tie.Need-returns-2
-returns-2 c = lengths-differ _ _ _ _ _ _ _ _ _ _ (c .before .before .before .if1 .left) (c .before .before .entries-between .ensures) (c .before .entries-between2 .ensures) (c .if2 .taken)
+returns-2 c = lengths-differ _ _ _ _ _ _ _ _ _ _ (c .before .before .before .if1 .left) (c .before .before .distance .ensures) (c .before .distance2 .ensures) (c .if2 .taken)
 
 returns-3 : tie.Need-returns-3
-returns-3 c = rest-compared _ _ _ _ _ _ _ _ _ _ (c .before .before .before .before .if1 .left) (c .before .before .before .entries-between .ensures) (c .before .before .entries-between2 .ensures) (c .before .if2 .left) (c .same-entries .ensures)
+returns-3 c = rest-compared _ _ _ _ _ _ _ _ _ _ (c .before .before .before .before .if1 .left) (c .before .before .before .distance .ensures) (c .before .before .distance2 .ensures) (c .before .if2 .left) (c .same-entries .ensures)
 
 pub agree-spec : {M : Type 1} → statement M
 agree-spec =

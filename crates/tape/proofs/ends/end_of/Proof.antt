@@ -6,7 +6,6 @@ use native.Mathlib.Omega.{arith}
 use borrow.Author.Needs.{needs}
 use denote.Ref.{now}
 use Rattle.grammar.specs.Counts.{StepFits}
-use Rattle.grammar.specs.declared.count.Counted.{Counted}
 use Rattle.tape.specs.Skip.{countFrom}
 use Rattle.tape.proofs.Skipping.{count-done, count-none, count-refused, count-on}
 use Rattle.tape.proofs.ends.end_of.Statement.{statement}

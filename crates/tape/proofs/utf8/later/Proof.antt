@@ -2,7 +2,6 @@
 -- Assumes nothing.
 use Rattle.format.specs.Utf8.{_to_}
 use Rattle.tape.proofs.Moves.{moved-in, moved-below, moved-above}
-use native.Mathlib.Omega.{arith}
 use Rattle.tape.proofs.utf8.later.Statement.{statement}
 use Rattle.tape.proofs.utf8.later.Tie as tie
 
