@@ -69,6 +69,59 @@ fn the_figures_of_a_library() {
     assert_eq!(codes(Sort::Body), [61, 62, 63]);
 }
 
+// ------------------------------------------------------------------ how far an argument moves a result
+
+/// The condition and term places of a parameter in a definition.
+fn places_of(definition: &Node, name: &[u8]) -> u64 {
+    let mut places = 0;
+    definition.visit(&mut |node| places += u64::from(matches!(node.code, 58 | 32) && node.text == name));
+    places
+}
+
+/// A call that succeeded: the trees of its definition and of its arguments, and what came of it.
+struct Succeeded {
+    definition: Node,
+    arguments: Vec<Node>,
+    size: u64,
+    charged: u64,
+}
+
+impl Succeeded {
+    fn of(case: &Case) -> Option<Succeeded> {
+        let (answer, notes) = model::answer(case);
+        let (definition, call) = (notes.trees[0].clone(), &notes.trees[1]);
+        let result = (answer.number == 0).then(|| tape::accept(&answer.result, Sort::Any, 81).expect("a tape"))?;
+        let arguments = call.children[1].children.clone();
+        Some(Succeeded { definition, arguments, size: tape::size(&result), charged: answer.charged })
+    }
+}
+
+/// Document 02's sentence on point 14, of every two calls in its lists that differ in one argument, both conditions or both terms.
+#[test]
+fn an_argument_moves_a_result_once_for_each_place() {
+    let mut succeeded = Vec::new();
+    for list in edges::lists().iter().filter(|list| list.point == 14) {
+        (list.cases)(&mut |edge| succeeded.extend(Succeeded::of(&edge.case)));
+    }
+    let mut pairs = 0;
+    for (i, one) in succeeded.iter().enumerate() {
+        for other in succeeded[i + 1..].iter().filter(|other| other.definition == one.definition) {
+            let both = one.arguments.iter().zip(&other.arguments).enumerate();
+            let differ: Vec<_> = both.filter(|(_, (a, b))| a != b).collect();
+            let [(parameter, (a, b))] = differ[..] else { continue };
+            if a.code != b.code || a.code == 57 {
+                continue;
+            }
+            let name = &one.definition.children[1].children[2 * parameter + 1].text;
+            let (places, a, b) = (places_of(&one.definition, name), tape::size(a), tape::size(b));
+            assert_eq!(one.size + places * b, other.size + places * a, "sizes");
+            assert_eq!(one.charged + places * b, other.charged + places * a, "charges");
+            pairs += 1;
+        }
+    }
+    assert!(pairs > 10_000, "{pairs} pairs");
+}
+
 // ------------------------------------------------------------------ faults that the lists are there for
 
 type Fault = fn(&Case, &mut Answer);
@@ -109,7 +162,7 @@ fn passes(case: &Case, answer: &mut Answer, number: u64, reason: &str) {
     }
 }
 
-const FAULTS: [(u8, &str, Fault); 14] = [
+const FAULTS: [(u8, &str, Fault); 16] = [
     (9, "a count passes its ceiling", |case, answer| {
         let at_the_end = |i: &usize| case.counts[*i] == u32::MAX && answer.charged > 0;
         (0..255).filter(at_the_end).for_each(|i| answer.counts[i] = 0);
@@ -147,6 +200,15 @@ const FAULTS: [(u8, &str, Fault); 14] = [
     (11, "a literal of 256 bytes is accepted", |case, answer| passes(case, answer, 3, "literal")),
     (13, "the budget is one less", |case, answer| {
         answer.result = sheet::lines_under(&case.tapes[0], sheet::LIMIT - 1, sheet::FILE).into_bytes();
+    }),
+    (14, "a `?` in a slot is charged", |case, answer| {
+        let mut slots = 0;
+        model::answer(case).1.trees[0].visit(&mut |node| slots += u64::from(node.code == 44));
+        answer.charged += slots;
+    }),
+    (14, "an argument is charged only where it stands first", |case, answer| {
+        let definition = &model::answer(case).1.trees[0];
+        answer.charged -= places_of(definition, b"x").saturating_sub(1);
     }),
     (5, "N of a refusal", |_, answer| answer.size[0] += u64::from(answer.number == 35)),
 ];

@@ -11,7 +11,7 @@ use Rattle.answer.specs.Matches.{answerWith}
 use Rattle.substitution.specs.Demand3.{Passed, Demand3Returned}
 
 -- the check's answer has the number that was returned
-passes : {definition : List ℕ} → Passed definition → Passes definition
+pub passes : {definition : List ℕ} → Passed definition → Passes definition
 passes {definition} p =
     let other : (n : ℕ) → p .returned .number ≢ n → checkAnswer (p .messageLength) definition .number ≢ n =
     λ n h e. h (ap (λ (a : Answer). a .number) (p .met) ∙ e) in

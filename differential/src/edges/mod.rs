@@ -1,6 +1,7 @@
 //! Systematic cases at the edges that document 02's points name. They are the same in every run: each list goes through
 //! all cases of its kind, and says of each what must come, before the model, upstream or the archive is asked.
 
+mod arguments;
 mod changes;
 mod counts;
 mod judge;
@@ -100,6 +101,7 @@ pub fn lists() -> Vec<List> {
         judge::LISTS,
         provider::LISTS,
         sheet::LISTS,
+        arguments::LISTS,
         preview::LISTS,
     ];
     lists.concat()
