@@ -11,10 +11,10 @@
  * deeper at each, and so do sizes, charges and messages. No result holds a 2.
  *
  * Stack: the walks recurse as deep as tapes nest. Measured at the deepest inputs on x86-64 (`bench stack`): neukolja_check 71,135
- * bytes, neukolja_registry 15,495, neukolja_check_library 75,359, neukolja_check_at 75,263, neukolja_merge 43,423,
- * neukolja_substitute 146,527, neukolja_expand 300,527, neukolja_preview 312,831, neukolja_judge 338,047,
- * neukolja_older 22,599, neukolja_profile 22,583, neukolja_provider 10,071, neukolja_argument_to_term 10,103,
- * neukolja_term_to_argument 10,199, neukolja_sheet_open 15,623, neukolja_sheet_next 300,527. A linker script or a thread must
+ * bytes, neukolja_registry 15,487, neukolja_check_library 75,359, neukolja_check_at 75,263, neukolja_merge 43,415,
+ * neukolja_substitute 146,511, neukolja_expand 300,447, neukolja_preview 312,751, neukolja_judge 337,967,
+ * neukolja_older 22,591, neukolja_profile 22,575, neukolja_provider 10,063, neukolja_argument_to_term 10,095,
+ * neukolja_term_to_argument 10,191, neukolja_sheet_open 15,615, neukolja_sheet_next 300,447. A linker script or a thread must
  * provide it, with what the caller itself needs and some room on top: nothing checks it while a function runs.
  *
  * A function keeps nothing between calls, so several threads may call it at once, each with buffers of its own. What a call

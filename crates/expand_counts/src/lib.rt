@@ -1,5 +1,5 @@
 // The calls of a condition that expansion enters, counted for the definitions that they name. One loop over the entries: a call is a
-// 54 that stands in no field and in no array of an operand. Those are passed over; of all else nothing but the code is looked at.
+// 54 that stands in no field and in no array of an operand. Those are passed over; of all else nothing but the code and the length of its text is looked at.
 use buffer::lesser;
 use grammar::codes::TERM;
 use grammar::kind::is_text;

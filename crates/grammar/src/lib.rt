@@ -1,5 +1,5 @@
-// The grammar of document 01's tapes: what kind of value a code has, the table of what may stand where, and what one entry does to the
-// stack of a scan.
+// The grammar of the tapes: what kind of value a code has, the tables of what may stand where, how many subtrees follow a code, and
+// what one entry does to the stack of a scan.
 pub mod codes;
 pub mod count;
 pub mod entry;

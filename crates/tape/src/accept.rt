@@ -11,7 +11,7 @@ ghost use mathlib.Core.Path.{_≡_};
 ghost use Rattle.tape.specs.Accept.{acceptBy, acceptIn, acceptNamed, acceptOf, judged};
 
 // The layout of a tape whose root is of a sort and which passes no largest figure of an input, nor once its Ors are rewritten, or the
-// refusal's number. The longest text has 64 bytes, names too.
+// refusal's number. The longest text of a name has 64 bytes.
 pub fn accept(s: &[u8], sort: u64) -> Opened
     ensures { λ r. ⌜ r ≡ acceptOf (now (s .entry)) sort ⌝ }
 {

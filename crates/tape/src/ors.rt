@@ -39,7 +39,7 @@ pub fn count_ors(s: &[u8], l: Layout) -> usize
     if holds(s, l) { count_held(s, l) } else { 0 }
 }
 
-// Whether the rewritten tape has no more than 1,024 entries. Up to 256 it has not, whatever they are.
+// Whether the rewritten tape has no more than 1,024 entries. Up to 256 it never has more, whatever they are.
 pub fn fits_rewritten(s: &[u8], l: Layout) -> bool
     ensures { λ r. ⌜ r ≡ leb (rewrittenCount (now (s .entry)) l) 1024 ⌝ }
 {

@@ -259,7 +259,7 @@ pub fn skip(s: &[u8], l: Layout, from: Place, sort: u64) -> Skipped
     end_of(&counts, s, l, from, due_of(sort), has_pairs(sort))
 }
 
-// The same by the table of document 01. A small tree is not measured.
+// `too_deep_in` by the table of document 01. A small tree is not measured.
 pub fn too_deep(s: &[u8], l: Layout, sort: u64) -> bool
     ensures { λ r. ⌜ r ≡ tooDeep (now (s .entry)) l sort ⌝ }
 {
