@@ -5,7 +5,7 @@ use mathlib.Core.Path.{_≡_, sym, subst, ap, _∙_}
 use mathlib.Core.List.{List}
 use Rattle.format.specs.Ast.{Tree}
 use Rattle.definition.specs.Answers.{Answer, substituteAnswer}
-use Rattle.definition.specs.ArgumentSize.{Moved, Holds}
+use Rattle.definition.specs.ArgumentSize.{Holds}
 use Rattle.definition.proofs.ArgumentSize.{argument-size-on-tapes}
 use Rattle.definition.proofs.Held.{holds-tree}
 use Rattle.substitution.specs.ArgumentSize.{Substituted, Leaves, ArgumentSizeReturned}
