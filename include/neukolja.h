@@ -266,7 +266,8 @@ void neukolja_sheet_open(const uint8_t *registry, size_t registry_length,
 
 /* The next condition of a sheet, expanded with what is left of the budget as its limit; call it with the same registry and sheet until
  * none is left. A refused condition, whatever its number, 1 too, does not stop the others, and what it charged stays. Buffers, counts and
- * answer are those of neukolja_expand. A step when none is left answers 0 and leaves state and counts.
+ * answer are those of neukolja_expand. A step when none is left answers 0, or 1 if a buffer is too
+ * short, and leaves state and counts.
  * state:   the state before, and afterwards that behind the condition. Any five numbers are answered: a condition that does not lie in the
  *          sheet is an empty one, which is 2, and the place then stays; nothing is left of a budget below what was charged, and a
  *          limit or file number that is too large is the largest one. */

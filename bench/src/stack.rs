@@ -146,13 +146,14 @@ fn bytes(mut run: impl FnMut()) -> usize {
     let mut job = Job { run: &mut run, top: 0 };
     let (mut attributes, mut thread) = (Attributes([0; 64]), 0);
     // SAFETY: the stack is ours, and is neither moved nor looked at before the thread has ended.
-    let failed = unsafe {
-        pthread_attr_init(&mut attributes)
-            | pthread_attr_setstack(&mut attributes, stack.as_mut_ptr().cast(), SIZE)
-            | pthread_create(&mut thread, &attributes, start, (&raw mut job).cast())
-            | pthread_join(thread, std::ptr::null_mut())
-    };
-    assert_eq!(failed, 0, "no thread on a stack of its own");
+    unsafe {
+        assert_eq!(pthread_attr_init(&mut attributes), 0, "attributes of a thread");
+        let set = pthread_attr_setstack(&mut attributes, stack.as_mut_ptr().cast(), SIZE);
+        assert_eq!(set, 0, "a stack of its own");
+        let created = pthread_create(&mut thread, &attributes, start, (&raw mut job).cast());
+        assert_eq!(created, 0, "a thread on a stack of its own");
+        assert_eq!(pthread_join(thread, std::ptr::null_mut()), 0, "a thread that ends");
+    }
     let lowest = stack.iter().position(|word| *word != PAINT).expect("the stack was used");
     assert!(lowest > 0, "the stack was too small");
     job.top - stack[lowest..].as_ptr().addr()

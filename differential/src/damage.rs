@@ -1,8 +1,9 @@
 //! Damaged copies of tapes.
 
 use crate::random::Random;
+use crate::tape::LARGEST;
 
-const COUNTS: [u64; 9] = [0, 1, 17, 1 << 16, u32::MAX as u64, 1 << 32, 1 << 63, u64::MAX - 1, u64::MAX];
+const EXTREME_VALUES: [u64; 9] = [0, 1, 17, 1 << 16, u32::MAX as u64, 1 << 32, 1 << 63, u64::MAX - 1, u64::MAX];
 
 /// One to three damages.
 pub fn damage(random: &mut Random, tape: &mut Vec<u8>) {
@@ -71,8 +72,8 @@ fn change_a_size(random: &mut Random, tape: &mut [u8]) {
     let new = match random.below(6) {
         0 => now.wrapping_add(1),
         1 => now.wrapping_sub(1),
-        2 => 1024 + random.below(3) as u32,
-        3 => 3072 + random.below(3) as u32,
+        2 => (LARGEST.entries + random.below(3)) as u32,
+        3 => (LARGEST.text + random.below(3)) as u32,
         4 => u32::MAX,
         _ => random.number() as u32,
     };
@@ -88,7 +89,7 @@ fn change_a_value(random: &mut Random, tape: &mut [u8], parts: &Parts) {
     let new = match random.below(4) {
         0 => now.wrapping_add(1),
         1 => now.wrapping_sub(1),
-        2 => *random.pick(&COUNTS),
+        2 => *random.pick(&EXTREME_VALUES),
         _ => now.wrapping_add(random.size(8) as u64),
     };
     tape[at..at + 8].copy_from_slice(&new.to_le_bytes());

@@ -16,12 +16,20 @@ const USAGE: &str = "differential COMMAND
   (run, replay and edges take --program PATH, the house sheet's program)
   record FILE [--seed N] [--cases N] [--only OPERATION,..]   write the fixed list, from 400,000 cases";
 
+/// Each has something behind it.
+const OPTIONS: [&str; 6] = ["--seed", "--cases", "--from", "--only", "--point", "--program"];
+
 /// After so many differences a campaign ends.
 const ENOUGH: u64 = 20;
 
 fn main() -> ExitCode {
     upstream::quiet_panics();
     let args: Vec<String> = std::env::args().skip(1).collect();
+    let unknown = args.iter().find(|arg| arg.starts_with("--") && !OPTIONS.contains(&arg.as_str()));
+    if let Some(unknown) = unknown {
+        eprintln!("no option {unknown}\n{USAGE}");
+        return ExitCode::from(2);
+    }
     let done = match args.first().map(String::as_str) {
         Some("run") => option(&args, "--seed", 1).and_then(|seed| {
             let (from, cases) = (option(&args, "--from", 0)?, option(&args, "--cases", 100_000)?);
@@ -29,8 +37,8 @@ fn main() -> ExitCode {
         }),
         Some("show") => option(&args, "--seed", 1).and_then(|seed| Ok(show(seed, option(&args, "--from", 0)?))),
         Some("edges") => option(&args, "--point", 0).and_then(|point| Ok(edges(point, machines(&args)?))),
-        Some("replay") if args.len() >= 2 => machines(&args).and_then(|machines| replay(&args[1], machines)),
-        Some("record") if args.len() >= 2 => option(&args, "--seed", 1)
+        Some("replay") if has_file(&args) => machines(&args).and_then(|machines| replay(&args[1], machines)),
+        Some("record") if has_file(&args) => option(&args, "--seed", 1)
             .and_then(|seed| record(&args[1], seed, option(&args, "--cases", 400_000)?, &only(&args)?)),
         _ => Err(USAGE.to_string()),
     };
@@ -42,6 +50,11 @@ fn main() -> ExitCode {
             ExitCode::from(2)
         }
     }
+}
+
+/// Whether a file stands behind the command.
+fn has_file(args: &[String]) -> bool {
+    args.get(1).is_some_and(|file| !file.starts_with("--"))
 }
 
 /// The number behind `name`, or `otherwise`.
@@ -56,8 +69,12 @@ fn option(args: &[String], name: &str, otherwise: u64) -> Result<u64, String> {
 fn only(args: &[String]) -> Result<Vec<Operation>, String> {
     let Some(i) = args.iter().position(|a| a == "--only") else { return Ok(OPERATIONS.to_vec()) };
     let named = args.get(i + 1).ok_or("operations belong behind --only")?;
-    let find = |name: &str| OPERATIONS.into_iter().find(|o| o.name() == name).ok_or(format!("no operation {name}"));
+    let find = |name: &str| OPERATIONS.into_iter().find(|o| o.name() == name).ok_or_else(|| no_operation(name));
     named.split(',').map(find).collect()
+}
+
+fn no_operation(name: &str) -> String {
+    format!("no operation {name}; there are {}", OPERATIONS.map(Operation::name).join(", "))
 }
 
 /// The archive, if one is linked, and the house sheet's program, if one is given.

@@ -79,7 +79,7 @@ pub enum Measured {
     Whole,
 }
 
-// ------------------------------------------------------------------ the four operations
+// ------------------------------------------------------------------ the operations
 
 pub fn answer(case: &Case) -> (Answer, Notes) {
     let mut walk = Walk::new(u64::from(case.limit), case.file, LARGEST);

@@ -489,7 +489,7 @@ fn generated(result: &Node, file: u16) -> BTreeSet<Shows> {
         if matches!(node.code, 27 | 43) && digits > 0 && name[..name.len() - digits].ends_with(b"$") {
             all.insert(Shows::Digits(digits));
             all.insert(Shows::FileDigits(end.len().saturating_sub(1)));
-            if node.text.len() == if file == 0 { 75 } else { 81 } {
+            if node.text.len() == Operation::Judge.longest_name(2, file) {
                 all.insert(Shows::LongestName(file > 0));
             }
         }

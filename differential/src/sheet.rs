@@ -155,7 +155,7 @@ fn spoil(random: &mut Random, sheet: &mut Vec<u8>) {
         3 => sheet[..4].copy_from_slice(&(*random.pick(&[33, 255, 65_536, u32::MAX])).to_le_bytes()),
         4 => {
             // One more condition, of zeros, that makes the sheet as long as it may be, or longer.
-            let length = LONGEST_SHEET.saturating_sub(sheet.len() + 4) + random.below(3) - 1;
+            let length = (LONGEST_SHEET + random.below(3)).saturating_sub(sheet.len() + 5);
             sheet[0] += 1;
             sheet.extend(with_length(&vec![0; length]));
         }

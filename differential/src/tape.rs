@@ -248,7 +248,7 @@ pub fn measure(node: &Node) -> Measure {
     sum
 }
 
-/// Document 01's size: one for each code 1 to 13 and 20 to 36.
+/// Document 01's size: one for each code 1 to 13 and 20 to 36. (A provider's arguments count here too; nothing charges for them.)
 pub fn size(node: &Node) -> u64 {
     u64::from(is_node(node.code)) + node.children.iter().map(size).sum::<u64>()
 }

@@ -107,7 +107,7 @@ fn wrong_answers_are_noticed() {
                 answer.result[0] += 1;
             }
         }),
-        ("gives the first one's span for 51", |case, answer| {
+        ("swaps start and end of the span of 51", |case, answer| {
             if case.operation == Operation::Merge && answer.number == 51 {
                 (answer.start, answer.end) = (answer.end, answer.start);
             }

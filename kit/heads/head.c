@@ -88,6 +88,22 @@ static void take_counts(struct reader *r, uint32_t counts[COUNTS])
         counts[i] = (uint32_t)take_number(r, 4);
 }
 
+/* how many tapes an operation reads: the archive's functions take no null pointer for one that is missing */
+static int tapes_of(uint8_t operation)
+{
+    switch (operation) {
+    case SUBSTITUTE:
+    case EXPAND:
+    case PREVIEW:
+    case MERGE:
+        return 2;
+    case JUDGE:
+        return 3;
+    default:
+        return 1;
+    }
+}
+
 static void read_request(struct reader *r, struct request *q)
 {
     memset(q, 0, sizeof *q);
@@ -103,12 +119,14 @@ static void read_request(struct reader *r, struct request *q)
             stop("a buffer that is too long");
     take_counts(r, q->counts);
     q->tapes = (uint8_t)take_number(r, 1);
-    if (q->tapes > 3)
-        stop("too many tapes");
+    if (q->tapes != tapes_of(q->operation))
+        stop("another number of tapes than the operation reads");
     for (int i = 0; i < q->tapes; i++) {
         q->length[i] = (uint32_t)take_number(r, 4);
         q->tape[i] = take(r, q->length[i]);
     }
+    if (r->left != 0)
+        stop("bytes behind the last tape");
 }
 
 static void put_number(uint64_t value, int bytes)

@@ -8,7 +8,7 @@ use crate::protocol;
 use crate::reading;
 use crate::response::Response;
 use differential::case::{Answer, Case, OPERATIONS};
-use differential::tape::{self, LARGEST_TEXT, Node};
+use differential::tape::{self, LARGEST, LARGEST_CALLS, LARGEST_LITERAL, LARGEST_PARAMETERS, LARGEST_TEXT, Node};
 use differential::{compare, record};
 use std::collections::{BTreeMap, BTreeSet};
 use std::path::Path;
@@ -78,13 +78,13 @@ struct Covered {
 
 /// The largest figures, and one more.
 const FIGURES: [(&str, usize); 7] = [
-    ("entries", 1024),
-    ("bytes of text", 3072),
-    ("levels", 64),
-    ("parameters", 16),
-    ("calls on a path", 4),
-    ("bytes of a name", 64),
-    ("bytes of a literal", 255),
+    ("entries", LARGEST.entries),
+    ("bytes of text", LARGEST.text),
+    ("levels", LARGEST.nesting),
+    ("parameters", LARGEST_PARAMETERS),
+    ("calls on a path", LARGEST_CALLS),
+    ("bytes of a name", LARGEST_TEXT),
+    ("bytes of a literal", LARGEST_LITERAL),
 ];
 
 impl Covered {
@@ -93,7 +93,7 @@ impl Covered {
         for (bytes, root) in case.tapes.iter().zip(case.operation.roots()) {
             // What is over in entries or text may be refused for its sizes alone, and then need be no tree.
             let sizes = reading::sizes(bytes).unwrap_or_default();
-            let over = [("entries", sizes.0, 1025), ("bytes of text", sizes.1, 3073)].into_iter();
+            let over = [("entries", sizes.0, LARGEST.entries + 1), ("bytes of text", sizes.1, LARGEST.text + 1)].into_iter();
             self.figures.extend(over.filter(|(_, is, over)| is == over).map(|(figure, is, _)| (figure, is)));
             // Those of a provider have no text in the notation, but codes of their own.
             let tree = reading::tree(bytes, *root).ok().or_else(|| tape::accept(bytes, *root, LARGEST_TEXT).ok());
