@@ -12,9 +12,9 @@ use Rattle.buffer.proofs.Sets.{sets-append}
 use Rattle.format.proofs.Accepted.{length-codes}
 use Rattle.format.proofs.Encodes.{length-le}
 use Rattle.format.specs.Entry.{Entry, le, codesOf, valuesOf}
-use Rattle.tape.specs.Layouts.{codeAt, valueAt, widthAt}
+use Rattle.tape.specs.Layouts.{codeAt, valueAt, widthAt, textBehind}
 use Rattle.tape.specs.declared.layout.Layout.{Layout}
-use Rattle.de_morgan.specs.Rewritten.{negation, headsOf, textBehind, headsFrom, putHead, putHeads, SideBegun, EntryPut, SideAdded}
+use Rattle.de_morgan.specs.Rewritten.{negation, headsOf, headsFrom, putHead, putHeads, SideBegun, EntryPut, SideAdded}
 use Rattle.de_morgan.specs.declared.Begun.{Begun}
 
 pub put-append : (n at : ℕ) (es fs : List Entry) (out : List ℕ)

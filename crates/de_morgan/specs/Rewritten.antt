@@ -12,7 +12,7 @@ use lib.Seq.{sets}
 use Rattle.format.specs.Entry.{Entry, entry, le}
 use Rattle.format.specs.Limits.{weigh}
 use Rattle.format.specs.Stands.{part}
-use Rattle.tape.specs.Layouts.{tapeLayout, holds, codeAt, valueAt, widthAt}
+use Rattle.tape.specs.Layouts.{tapeLayout, holds, codeAt, valueAt, widthAt, textBehind}
 use Rattle.tape.specs.Ors.{rewrittenCount}
 use Rattle.tape.specs.Pick.{pick}
 use Rattle.tape.specs.Scan.{skipAt}
@@ -49,10 +49,6 @@ sidesWith s l code value next sides = pick (eqb code 2) (rightOf (skipAt s l nex
 -- what an entry becomes, a right side's negation aside
 unfoldable pub headsOf : ℕ → ℕ → List Entry
 headsOf code value = pick (eqb code 2) (entry 3 value ∷ entry 1 value ∷ entry 3 value ∷ []) (entry code value ∷ [])
-
--- the text offset behind an entry, as far as there is text
-abbrev pub textBehind : ℕ → ℕ → ℕ → ℕ
-textBehind size text width = pick (leb width (size - text)) (text + width) size
 
 abbrev pub placeBehind : List ℕ → Layout → ℕ → ℕ → Place
 placeBehind s l at text = record { at = at + 1; text = textBehind (l .size) text (widthAt s l at) }

@@ -6,6 +6,7 @@
 use buffer::value_bytes;
 use buffer::write;
 use buffer::write_size;
+use grammar::codes::CONDITION;
 use grammar::codes::either;
 use grammar::kind::text_width;
 use tape::layout::Layout;
@@ -13,6 +14,7 @@ use tape::layout::Place;
 use tape::layout::code_at;
 use tape::layout::holds;
 use tape::layout::of_tape;
+use tape::layout::text_behind;
 use tape::layout::value_at;
 use tape::ors::count_held;
 use tape::part::part_of;
@@ -28,7 +30,7 @@ ghost use Rattle.format.specs.Macro.{tally};
 ghost use Rattle.tape.specs.Layouts.{Held};
 ghost use Rattle.tape.specs.Ors.{coded, orsFrom, orsIn};
 ghost use Rattle.tape.specs.Scan.{skipAt};
-ghost use Rattle.de_morgan.specs.Rewritten.{beginsAt, rightOf, textBehind, headsFrom, putHead, putHeads, tapeIn, rewrittenIn, rewrittenLayout, SideBegun, EntryPut, SideAdded};
+ghost use Rattle.de_morgan.specs.Rewritten.{beginsAt, rightOf, headsFrom, putHead, putHeads, tapeIn, rewrittenIn, rewrittenLayout, SideBegun, EntryPut, SideAdded};
 
 // Puts the code and the value of entry `at` of a tape of `n` entries.
 fn put_head(out: &mut [u8], n: usize, at: usize, code: u8, value: u64)
@@ -94,7 +96,7 @@ fn begin_side(out: &mut [u8], n: usize, put: usize, sides: &[u64], top: usize, a
 fn right_side(s: &[u8], l: Layout, left: Place) -> usize
     ensures { λ r. ⌜ r ≡ rightOf (skipAt (now (s .entry)) l left 1) ⌝ }
 {
-    let Skipped::At(p) = skip(s, l, left, 1) else {
+    let Skipped::At(p) = skip(s, l, left, CONDITION) else {
         return 0;
     };
     p.at
@@ -120,18 +122,6 @@ fn add_side(
     sides[top - 1] = value;
     sides[top - 2] = right as u64;
     top - 2
-}
-
-// The text offset behind `width` bytes, as far as there is text.
-fn text_behind(size: usize, text: usize, width: u64) -> usize
-    requires { ⌜ text ≤ size ⌝ }
-    ensures { λ r. ⌜ (r ≡ textBehind size text width) × (r ≤ size) ⌝ }
-{
-    if width <= (size - text) as u64 {
-        text + width as usize
-    } else {
-        size
-    }
 }
 
 // Puts codes and values of what the entries of a layout become. `sides` has room for two numbers of each Or.

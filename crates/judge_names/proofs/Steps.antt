@@ -20,14 +20,14 @@ use Rattle.format.specs.Entry.{Text, Entry}
 use Rattle.definition.specs.Text.{eqText}
 use Rattle.definition.specs.Check.{contains}
 use Rattle.tape.specs.Pick.{pick}
-use Rattle.tape.specs.Layouts.{Held, tapeLayout, holds, codeAt, valueAt, widthAt}
+use Rattle.tape.specs.Layouts.{Held, tapeLayout, holds, codeAt, valueAt, widthAt, textBehind}
 use Rattle.tape.specs.declared.layout.Layout.{Layout}
 use Rattle.tape.proofs.Holding.{held}
 use Rattle.format.proofs.Tests.{and-left, and-right, from-true}
 use Rattle.format.specs.Names.{isName, namesIn}
 use Rattle.definition.specs.Agree.{Pair, pairOf, consistent, consistentWith, fits, equalEntry, sameButNames}
 use Rattle.definition.proofs.Texts.{contains-append, contains-names}
-use Rattle.judge_names.specs.Entries.{textBehind, textAt, spelledAt, entryAt, entriesFrom, entriesIn, pair, pairAt, pairsBefore, agreesAt, protectedIn, sameIn}
+use Rattle.judge_names.specs.Entries.{textAt, spelledAt, entryAt, entriesFrom, entriesIn, pair, pairAt, pairsBefore, agreesAt, protectedIn, sameIn}
 
 -- ------------------------------------------------------------------ the entries of a tape
 

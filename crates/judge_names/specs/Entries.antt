@@ -1,23 +1,19 @@
 -- The entries of a tape read one by one, whatever they are, the names that they hold, and the pairs of names of two tapes side by side.
 -- Where a tree stands at a layout, they are its entries (proofs/Entries.antt).
 -- Assumes nothing.
-use Prim.Native.Nat.{ℕ, zero, suc, _+_, _-_}
+use Prim.Native.Nat.{ℕ, zero, suc, _+_}
 use mathlib.Core.List.{List, [], _∷_, _++_}
 use mathlib.Core.Bool.{Bool, false, _&&_}
-use lib.Dec.{leb, eqb}
+use lib.Dec.{eqb}
 use Rattle.format.specs.Entry.{Text, Entry}
 use Rattle.tape.specs.Pick.{pick}
-use Rattle.tape.specs.Layouts.{holds, codeAt, valueAt, widthAt}
+use Rattle.tape.specs.Layouts.{holds, codeAt, valueAt, widthAt, textBehind}
 use Rattle.tape.specs.declared.layout.Layout.{Layout}
 use Rattle.nodes.specs.Node.{nameAt}
 use Rattle.format.specs.Names.{isName, namesIn}
 use Rattle.definition.specs.Agree.{Pair, pairOf, fits, equalEntry, sameButNames}
 
 -- ------------------------------------------------------------------ entries
-
--- the text offset behind an entry of so many bytes, as far as there is text
-abbrev pub textBehind : (size text width : ℕ) → ℕ
-textBehind size text width = pick (leb width (size - text)) (text + width) size
 
 -- where the text of entry i begins
 unfoldable pub textAt : List ℕ → Layout → ℕ → ℕ

@@ -10,6 +10,7 @@ use nodes::same_text;
 use tape::layout::Layout;
 use tape::layout::code_at;
 use tape::layout::holds;
+use tape::layout::text_behind;
 use tape::layout::value_at;
 ghost use mathlib.Core.Path.{_≡_};
 ghost use mathlib.Core.Bool.{true, _&&_};
@@ -18,11 +19,11 @@ ghost use Prim.Native.Nat.{_≤_, _<_};
 ghost use lib.Dec.{eqb};
 ghost use Rattle.definition.specs.Check.{contains};
 ghost use Rattle.definition.specs.Text.{eqText};
-ghost use Rattle.tape.specs.Layouts.{Held, holds, codeAt, valueAt, widthAt};
+ghost use Rattle.tape.specs.Layouts.{Held, holds, codeAt, valueAt, widthAt, textBehind};
 ghost use Rattle.tape.specs.Pick.{pick};
 ghost use Rattle.format.specs.Names.{isName, namesIn};
 ghost use Rattle.definition.specs.Agree.{consistent, consistentWith, fits, sameButNames};
-ghost use Rattle.judge_names.specs.Entries.{textBehind, textAt, spelledAt, entriesIn, protectedIn, pair, pairAt, pairsBefore, agreesAt, sameIn};
+ghost use Rattle.judge_names.specs.Entries.{textAt, spelledAt, entriesIn, protectedIn, pair, pairAt, pairsBefore, agreesAt, sameIn};
 
 pub mod result;
 
@@ -49,13 +50,7 @@ fn behind(s: &[u8], l: Layout, at: usize, text: usize) -> usize
     requires { ⌜ Held (now s) l × (at < l .entries) × (text ≤ l .size) ⌝ }
     ensures { λ r. ⌜ (r ≡ textBehind (l .size) text (widthAt (now (s .entry)) l at)) × (r ≤ l .size) ⌝ }
 {
-    let size = l.size;
-    let width = width_at(s, l, at);
-    if width <= (size - text) as u64 {
-        text + width as usize
-    } else {
-        size
-    }
+    text_behind(l.size, text, width_at(s, l, at))
 }
 
 // The text of entry `at`, which begins at `text`.

@@ -49,6 +49,10 @@ valueAt s l i = fromLe (part s (l .values + 8 * i) 8)
 abbrev pub widthAt : List ℕ → Layout → ℕ → ℕ
 widthAt s l i = textWidth (isText (codeAt s l i)) (valueAt s l i)
 
+-- the text offset behind so many bytes of it, as far as there is text
+abbrev pub textBehind : (size text width : ℕ) → ℕ
+textBehind size text width = pick (leb width (size - text)) (text + width) size
+
 -- the same by a table's marks
 abbrev pub widthBy : List ℕ → List ℕ → Layout → ℕ → ℕ
 widthBy g s l i = widthOf (rowAt g (codeAt s l i)) (valueAt s l i)

@@ -3,7 +3,7 @@ use buffer::held_value;
 ghost use mathlib.Core.Path.{_≡_};
 ghost use Prim.Native.Nat.{_+_, _*_, _≤_, _<_};
 ghost use lib.ListN.{length};
-ghost use Rattle.tape.specs.Layouts.{codeAt, tapeLayout, areaLayout, valueAt, holds};
+ghost use Rattle.tape.specs.Layouts.{codeAt, tapeLayout, areaLayout, valueAt, holds, textBehind};
 
 // Where codes, values and text start in a slice, and how many entries and text bytes there are.
 pub struct Layout {
@@ -93,4 +93,16 @@ pub fn value_at(s: &[u8], l: Layout, at: usize) -> u64
 {
     let start = l.values;
     held_value(s, start + 8 * at)
+}
+
+// The text offset behind `width` bytes, as far as there is text.
+pub fn text_behind(size: usize, text: usize, width: u64) -> usize
+    requires { ⌜ text ≤ size ⌝ }
+    ensures { λ r. ⌜ (r ≡ textBehind size text width) × (r ≤ size) ⌝ }
+{
+    if width <= (size - text) as u64 {
+        text + width as usize
+    } else {
+        size
+    }
 }

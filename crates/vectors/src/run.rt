@@ -2,6 +2,7 @@
 use crate::list::Vector;
 use crate::list::bytes;
 use answer::Answer;
+use answer::refuse_number;
 use buffer::read_size;
 use buffer::read_value;
 use preview::Previewed;
@@ -112,7 +113,9 @@ fn on_a_tape(
         12 => provider::provider(tape),
         13 => provider::argument_to_term(tape, result),
         14 => provider::term_to_argument(tape, result),
-        _ => check_body::check(tape, message),
+        1 => check_body::check(tape, message),
+        // No list expects this number: an operation that is not known never comes out.
+        _ => refuse_number(0xFFFF_FFFF, message),
     }
 }
 

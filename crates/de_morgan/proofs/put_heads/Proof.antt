@@ -12,9 +12,9 @@ use lib.Dec.{eqb}
 use lib.ListN.{length, drop}
 use lib.Seq.{drop-length}
 use Rattle.format.specs.Limits.{weigh}
-use Rattle.tape.specs.Layouts.{codeAt, widthAt}
+use Rattle.tape.specs.Layouts.{codeAt, widthAt, textBehind}
 use Rattle.tape.specs.Ors.{orsFrom}
-use Rattle.de_morgan.specs.Rewritten.{textBehind, headsFrom, putHeads}
+use Rattle.de_morgan.specs.Rewritten.{headsFrom, putHeads}
 use Rattle.tape.proofs.Counting.{ors-step}
 use Rattle.de_morgan.proofs.Heads.{left-to-put, put-turn}
 use Rattle.de_morgan.proofs.put_heads.Statement.{statement}

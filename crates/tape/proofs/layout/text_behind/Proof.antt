@@ -1,12 +1,12 @@
--- `de_morgan::text_behind` meets its contract.
+-- `tape::layout::text_behind` meets its contract.
 -- Assumes nothing.
 use mathlib.Core.Path.{refl}
 use Prim.Native.Nat.{_-_}
 use native.Mathlib.Omega.{arith}
 use borrow.Author.Needs.{needs}
 use borrow.Author.Tests.{le-leb, lt-leb}
-use Rattle.de_morgan.proofs.text_behind.Statement.{statement}
-use Rattle.de_morgan.proofs.text_behind.Tie as tie
+use Rattle.tape.proofs.layout.text_behind.Statement.{statement}
+use Rattle.tape.proofs.layout.text_behind.Tie as tie
 
 returns : tie.Need-returns
 returns c =
