@@ -10,15 +10,15 @@ use mathlib.Core.Option.{Option, none, some}
 use borrow.Author.Tests.{le-leb}
 use lib.Dec.{T, leb, leb→le}
 use lib.ListN.{length}
-use Rattle.format.specs.Entry.{Entry, encode, textOf}
+use Rattle.format.specs.Entry.{Text, Entry, encode, textOf}
 use Rattle.format.specs.Macro.{holds}
 use Rattle.format.specs.Tape.{Reading, readTape, readTree, accept, read, Bytes}
-use Rattle.format.specs.Older.{printable, older, fitsOlder, Kind, TreeOf, rootOf, kindOf, firstCode, lastYear, acceptLastYear}
+use Rattle.format.specs.Older.{older, fitsOlder, Kind, TreeOf, rootOf, kindOf, firstCode, takesTexts, oldHead, acceptOld, printable}
 use Rattle.format.proofs.Accepted.{OnTape, accepted-on-tape}
 use Rattle.format.proofs.Encodes.{fitting, length-encode}
 use Rattle.format.proofs.Rewritten.{no-holds, read-no-or, read-as, read-on-tape}
-use Rattle.format.proofs.Older.{older-text, older-no-week, older-no-or, without-weeks, without-weeks-fits}
-use Rattle.format.proofs.LastYear.{lawful-of, rewrites-of, ages-of, older-on-tape, last-year, starts}
+use Rattle.format.proofs.Older.{older-taken, older-no-week, older-no-or, without-weeks, without-weeks-fits}
+use Rattle.format.proofs.LastYear.{lawful-of, rewrites-of, ages-of, printable-texts, older-on-tape, old-head, starts}
 use Rattle.definition.specs.Outcome.{Outcome}
 use Rattle.definition.specs.Answers.{padded, answer, numberAlone, reading}
 use Rattle.definition.specs.Kept.{Bounded}
@@ -78,11 +78,11 @@ module _ (bytes : List ℕ) (q : Bytes bytes) (k : Kind) (a : TreeOf k) (e : rea
       let s = fitting (length es) (length (textOf es)) (new-tape .range .sizes) in
       omega (arith, length-encode es, s .0, s .1)
 
-  old-head : T (printable (textOf (rootOf k .flat a)))
-      → acceptLastYear (rootOf k) (encode (rootOf k .flat (rootOf k .replace older a))) ≡ Reading.accepted (rootOf k .replace older a)
-  old-head p =
-      last-year (rootOf k) (lawful-of k) (rewrites-of k) (ages-of k) (rootOf k .replace older a) new-tape no-weeks-left
-      (rw (ages-of k .aged a, older-text (rootOf k .flat a)) p)
+  old-reads : (takes : Text → Bool) → T (takesTexts takes (rootOf k .flat a))
+      → acceptOld takes (rootOf k) (encode (rootOf k .flat (rootOf k .replace older a))) ≡ Reading.accepted (rootOf k .replace older a)
+  old-reads takes p =
+      old-head (rootOf k) (lawful-of k) (rewrites-of k) (ages-of k) takes (rootOf k .replace older a) new-tape no-weeks-left
+      (rw (ages-of k .aged a, older-taken takes (rootOf k .flat a)) p)
 
 -- ------------------------------------------------------------------ the theorems
 
@@ -103,7 +103,8 @@ older-accepted n bytes q h = go (leb 12296 n) h
           entry-by-entry = ages-of k .aged a;
           no-weeks = no-weeks-left bytes q k a r f;
           no-or = no-or-left bytes q k a r f;
-          accepted-last-year = old-head bytes q k a r f;
+          accepted-by-old = old-reads bytes q k a r f;
+          accepted-last-year = λ p. old-reads bytes q k a r f printable (printable-texts (rootOf k .flat a) p);
         }
 
     go : (b : Bool) → answer encode (resultAlone n) (elim b [ true ↦ olderTape bytes | false ↦ numberAlone 1 ]) .number ≡ 0
@@ -146,9 +147,9 @@ older-copies n bytes k a long q e w o =
     (record { succeeds = refl; unchanged = ap (padded n) same })
 
 pub last-year-refuses : LastYearRefuses
-unfolding acceptLastYear lastYear readTree
-last-year-refuses k bytes es e h = rw e (go (holds 64 es) (printable (textOf es)) h)
+unfolding acceptOld oldHead readTree
+last-year-refuses takes k bytes es e h = rw e (go (holds 64 es) (takesTexts takes es) h)
   where
-    go : (weeks shown : Bool) → weeks ≡ true
-        → readTree (rootOf k) (elim (not weeks && shown) [ true ↦ Reading.accepted es | false ↦ Reading.malformed ]) ≡ Reading.malformed
-    go weeks shown h = rw h refl
+    go : (weeks taken : Bool) → weeks ≡ true
+        → readTree (rootOf k) (elim (not weeks && taken) [ true ↦ Reading.accepted es | false ↦ Reading.malformed ]) ≡ Reading.malformed
+    go weeks taken h = rw h refl

@@ -6,10 +6,10 @@ use mathlib.Core.List.{List}
 use mathlib.Core.Bool.{Bool, true, false}
 use mathlib.Core.Option.{none, some}
 use lib.Dec.{T, leb}
-use Rattle.format.specs.Entry.{Entry, encode, textOf}
+use Rattle.format.specs.Entry.{Text, Entry, encode, textOf}
 use Rattle.format.specs.Macro.{holds}
 use Rattle.format.specs.Tape.{Reading, Root, readTape, accept, read, Bytes}
-use Rattle.format.specs.Older.{older, olderEntries, printable, fitsOlder, Kind, TreeOf, rootOf, kindOf, firstCode, acceptLastYear}
+use Rattle.format.specs.Older.{older, olderEntries, fitsOlder, Kind, TreeOf, rootOf, kindOf, firstCode, takesTexts, acceptOld, printable, acceptLastYear}
 use Rattle.definition.specs.Outcome.{Outcome}
 use Rattle.definition.specs.Answers.{Answer, Buffers, padded, answer, numberAlone, reading}
 use Rattle.definition.specs.Kept.{Bounded}
@@ -41,7 +41,8 @@ olderAnswer n bytes = answer encode (resultAlone n) (elim (leb 12296 n) [ true �
 -- ------------------------------------------------------------------ what is promised
 
 -- The result of a 0: the tape of the tree that was read, each week interval in days (equally long: format's `EquallyLong`). It
--- holds no 64 and no 2, and "an old head that takes the tape's texts" accepts it as that tree.
+-- holds no 64 and no 2. "An old head that takes the tape's texts", whatever texts it takes, accepts it as that tree; a head of
+-- last year does where all text is of bytes 20 to 7E.
 pub record OlderResult (n : ℕ) (bytes : List ℕ) (a : Answer) : Type 0 where
   pub kind : Kind
   pub tree : TreeOf kind
@@ -51,8 +52,12 @@ pub record OlderResult (n : ℕ) (bytes : List ℕ) (a : Answer) : Type 0 where
   pub entry-by-entry : rootOf kind .flat (rootOf kind .replace older tree) ≡ olderEntries (rootOf kind .flat tree)
   pub no-weeks : holds 64 (rootOf kind .flat (rootOf kind .replace older tree)) ≡ false
   pub no-or : holds 2 (rootOf kind .flat (rootOf kind .replace older tree)) ≡ false
+  pub accepted-by-old : (takes : Text → Bool) → T (takesTexts takes (rootOf kind .flat tree))
+      → acceptOld takes (rootOf kind) (encode (rootOf kind .flat (rootOf kind .replace older tree)))
+      ≡ Reading.accepted (rootOf kind .replace older tree)
   pub accepted-last-year : T (printable (textOf (rootOf kind .flat tree)))
-      → acceptLastYear (rootOf kind) (encode (rootOf kind .flat (rootOf kind .replace older tree))) ≡ Reading.accepted (rootOf kind .replace older tree)
+      → acceptLastYear (rootOf kind) (encode (rootOf kind .flat (rootOf kind .replace older tree)))
+      ≡ Reading.accepted (rootOf kind .replace older tree)
 
 abbrev pub OlderAccepted : Type 0
 OlderAccepted =
@@ -71,11 +76,11 @@ OlderCopies =
     → holds 2 (rootOf k .flat tree) ≡ false
     → Copied n bytes (olderAnswer n bytes)
 
--- "A head of last year refuses such a tape with 2."
+-- "A head of last year refuses such a tape with 2", as does every old head, whatever texts it takes.
 abbrev pub LastYearRefuses : Type 0
 LastYearRefuses =
-    (k : Kind) (bytes : List ℕ) (es : List Entry) → readTape bytes ≡ Reading.accepted es → holds 64 es ≡ true
-    → acceptLastYear (rootOf k) bytes ≡ Reading.malformed
+    (takes : Text → Bool) (k : Kind) (bytes : List ℕ) (es : List Entry) → readTape bytes ≡ Reading.accepted es → holds 64 es ≡ true
+    → acceptOld takes (rootOf k) bytes ≡ Reading.malformed
 
 -- no message, nothing charged, and the whole buffer is written
 abbrev pub OlderBounded : Type 0
