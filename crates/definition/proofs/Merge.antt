@@ -26,7 +26,7 @@ use Rattle.definition.specs.Answers.{Answer, Buffers, padded, answer, nu
 use Rattle.definition.specs.Merge.{joined, firstDiffering, refuseDiffering, tooLargeRegistry, merge, mergeTapes, registryTape, mergeAnswer, Merged, MergeKeeps}
 use Rattle.definition.proofs.Verdicts.{Given, refuses, nonzero-build}
 use Rattle.definition.proofs.Widen.{Alike, alike, differ, unknown, expand-alike}
-use Rattle.definition.proofs.Join.{joined-first, joined-finds, joined-builds, all-new}
+use Rattle.definition.proofs.Join.{joined-first, joined-finds, joined-builds, joined-in-order, all-new}
 
 -- ------------------------------------------------------------------ expansion with the merged registry
 
@@ -84,6 +84,7 @@ module _ (first second : List ℕ) (ds es : List MacroDef) (p : Bytes first) (q 
         no-or = registry-no-or fair;
         its-defs = its-tape small;
         builds = joined-builds ds es bd be;
+        in-order = joined-in-order ds es;
         finds-first = joined-first ds es;
         finds-second = joined-finds ds es agree;
         expands-alike = λ b limit file input e. same b limit file input (λ z. let w : _≡_ {A = ℕ} 0 30 = sym e ∙ z in absurd (omega arith));
