@@ -1,7 +1,8 @@
 -- The profile of point 10 (specs/Profile.antt): what it looks at are the tape's entries, what passes keeps to the three rules, and
 -- a plain condition is returned unchanged.
 -- Assumes nothing.
-use Prim.Native.Nat.{ℕ, _+_, _*_, _≤_}
+use Prim.Native.Nat.{ℕ, suc, _+_, _-_, _*_, _^_, _≤_}
+use native.Mathlib.Nat.{add-suc, mul-suc}
 use native.Mathlib.Omega.{arith}
 use mathlib.Core.Path.{_≡_, refl, sym, _∙_, ap, ap₂, subst}
 use mathlib.Core.Logic.{_≢_, _↔_}
@@ -9,14 +10,16 @@ use mathlib.Core.List.{List, [], _∷_, _++_}
 use mathlib.Core.Bool.{Bool, true, false, not, _&&_}
 use mathlib.Core.Option.{none, some, Option·none-ne-some}
 use borrow.Author.Tests.{le-leb}
-use lib.Dec.{T, leb, le→leb, leb→le, nleb→lt, not-T}
+use lib.Dec.{T, ltb, leb, lt→ltb, le→leb, leb→le, nleb→lt, not-T}
+use lib.IntN.{ℤ, pos, negsuc, _*ℤ_}
 use lib.ListN.{length}
 use Rattle.format.specs.Entry.{Entry, entry, encode, textOf}
 use Rattle.format.specs.Ast.{TimeUnit, Condition, Term, AggExpr, Call, CallArg, CallArgs, NamedArgs, Terms, Tree, MacroDef}
 use Rattle.format.specs.Flat.{flatTexts, flatUnit, flatInterval, flatBinder, flatBinders, flatCondition, flatTerm, flatAgg, flatCall, flatArg, flatArgs, flatFields, flatTerms, flatTree}
 use Rattle.format.specs.Limits.{isNode, nodeWeight, callWeight, weigh, deepCondition, deepTree, fitsSizes, fitsDepths, fitsAll, tooLargeTree}
 use Rattle.format.specs.Tape.{Reading, shortTexts, small, conditionRoot, registryRoot, namedRoot, read, Bytes}
-use Rattle.format.specs.Older.{unitSeconds}
+use Rattle.format.specs.Older.{unitSeconds, seconds}
+use Rattle.format.specs.Signed.{signed}
 use Rattle.format.proofs.Tests.{and-left, and-right, and-both, is-true}
 use Rattle.format.proofs.Accepted.{accepted-on-tape}
 use Rattle.format.proofs.Exact.{lawful-named, lawful-condition}
@@ -116,16 +119,50 @@ placed-is-flat c = of-condition c
 
 -- ------------------------------------------------------------------ the rules
 
+-- a number from 0 on by its successor, and one below by 0
+upward : ℤ → ℕ
+upward (pos n) = suc n
+upward (negsuc n) = 0
+
+below-zero : (s x : ℕ) → upward (pos (suc s) *ℤ negsuc x) ≡ 0
+unfolding upward
+below-zero s x = rw (mul-suc (suc s) x, add-suc (suc s * x) s) refl
+
+-- an amount in a unit of `suc s` seconds, of which a day has `most`
+module _ (s most n : ℕ) where
+  abbrev InADay : ℤ → Type 0
+  InADay z = (k : ℕ) × (pos (suc s) *ℤ z ≡ pos k) × (k ≤ 86400)
+
+  in-a-day : (n ≤ most → suc s * n ≤ 86400) → most ≤ 86400 → T (leb n most) → InADay (signed n)
+  unfolding signed
+  in-a-day f day h =
+      let l : n ≤ most = leb→le n most h in
+      rw (is-true {b = ltb n (2 ^ 63)} (lt→ltb n (2 ^ 63) (omega arith)), signed) (suc s * n, refl, f l)
+
+  day-in : (suc s * n ≤ 86400 → n ≤ most) → InADay (signed n) → T (leb n most)
+  unfolding signed upward
+  day-in g d = go (ltb n (2 ^ 63)) d
+    where
+      go : (low : Bool) → InADay (elim low [ true ↦ pos n | false ↦ negsuc (2 ^ 64 - suc n) ]) → T (leb n most)
+      go true d = let e : suc (suc s * n) ≡ suc (d .0) = ap upward (d .1) in le→leb n most (g (omega (arith, d .2)))
+      go false d =
+          let e : 0 ≡ suc (d .0) = sym (below-zero s (2 ^ 64 - suc n)) ∙ ap upward (d .1) in
+          absurd (omega (arith, e))
+
+  whole-day : (n ≤ most → suc s * n ≤ 86400) → (suc s * n ≤ 86400 → n ≤ most) → most ≤ 86400 → T (leb n most) ↔ InADay (signed n)
+  whole-day f g day = (in-a-day f day, day-in g)
+
 pub from-zero-to-one-day : FromZeroToOneDay
-unfolding withinDay notPast unitSeconds flatInterval flatUnit
+unfolding withinDay notPast seconds unitSeconds flatInterval flatUnit
 from-zero-to-one-day i = go (i .amount) (i .unit)
   where
-    go : (n : ℕ) (u : TimeUnit) → T (withinDay (entry (flatUnit u) n)) ↔ (n * unitSeconds u ≤ 86400)
-    go n TimeUnit.Seconds = (λ h. omega (arith, leb→le n 86400 h), λ h. le→leb n 86400 (omega arith))
-    go n TimeUnit.Minutes = (λ h. omega (arith, leb→le n 1440 h), λ h. le→leb n 1440 (omega arith))
-    go n TimeUnit.Hours = (λ h. omega (arith, leb→le n 24 h), λ h. le→leb n 24 (omega arith))
-    go n TimeUnit.Days = (λ h. omega (arith, leb→le n 1 h), λ h. le→leb n 1 (omega arith))
-    go n TimeUnit.Weeks = (λ h. omega (arith, leb→le n 0 h), λ h. le→leb n 0 (omega arith))
+    go : (n : ℕ) (u : TimeUnit)
+        → T (withinDay (entry (flatUnit u) n)) ↔ ((k : ℕ) × (pos (unitSeconds u) *ℤ signed n ≡ pos k) × (k ≤ 86400))
+    go n TimeUnit.Seconds = whole-day 0 86400 n (λ h. omega arith) (λ h. omega arith) (omega arith)
+    go n TimeUnit.Minutes = whole-day 59 1440 n (λ h. omega arith) (λ h. omega arith) (omega arith)
+    go n TimeUnit.Hours = whole-day 3599 24 n (λ h. omega arith) (λ h. omega arith) (omega arith)
+    go n TimeUnit.Days = whole-day 86399 1 n (λ h. omega arith) (λ h. omega arith) (omega arith)
+    go n TimeUnit.Weeks = whole-day 604799 0 n (λ h. omega arith) (λ h. omega arith) (omega arith)
 
 kept-rule : (broken : Bool) (number span : ℕ) → rule broken number span ≡ none → T (not broken)
 unfolding rule
