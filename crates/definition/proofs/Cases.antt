@@ -13,15 +13,15 @@ use Rattle.format.specs.DeMorgan.{openDeMorgan}
 use Rattle.format.specs.Build.{openBuild}
 use Rattle.format.specs.Tape.{openTape}
 use Rattle.definition.specs.Text.{utf8, openText}
-use Rattle.definition.specs.Outcome.{refusal, openOutcome}
+use Rattle.definition.specs.Outcome.{refusal, Outcome, openOutcome}
 use Rattle.definition.specs.Size.{openSize}
 use Rattle.definition.specs.Check.{checkDef, openCheck}
-use Rattle.definition.specs.Substitute.{openSubstitute}
+use Rattle.definition.specs.Substitute.{substitute, openSubstitute}
 use Rattle.definition.specs.Registry.{openRegistry}
 use Rattle.definition.specs.Expand.{openExpand}
 use Rattle.definition.specs.Answers.{answer, numberAlone, reading, longBuffers, treeAnswer, expandTapes, expandAnswer}
 use Rattle.definition.specs.Messages.{openMessages}
-use Rattle.definition.specs.Cases.{definitions, cases, orCase, runIn, run, caseInFile, resultOf, expected, line, runBytes, undeclared}
+use Rattle.definition.specs.Cases.{macroM, definitions, cases, orCase, runIn, run, caseInFile, callM, treeInFile, resultOf, expected, line, runBytes, undeclared}
 
 pub fourteen-cases : map run cases ≡ cases
 unfolding
@@ -35,6 +35,12 @@ unfolding
     openEntry openFlat openLimits openText openOutcome openSize openCheck openSubstitute openRegistry openExpand definitions
     runIn caseInFile
 case-in-file = refl
+
+-- and of substitution alike: m(5) at 7..9 in file 3 has t$7#3
+pub substitute-in-file : substitute 4 3 macroM callM ≡ Outcome.done treeInFile 4
+unfolding
+    openEntry openFlat openLimits openText openOutcome openSize openSubstitute macroM callM treeInFile
+substitute-in-file = refl
 
 -- the fourteen through bytes: the registry and the condition are encoded, read back and expanded, and the result is encoded
 pub fourteen-cases-through-bytes : map runBytes cases ≡ map expected cases
