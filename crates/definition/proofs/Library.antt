@@ -10,22 +10,32 @@ use mathlib.Core.List.{List, [], _∷_}
 use mathlib.Core.Bool.{Bool, true, false, _&&_}
 use mathlib.Core.Option.{none, some, Option·none-ne-some}
 use borrow.Author.Tests.{le-leb, eq-eqb, ne-eqb}
-use lib.Dec.{T, leb}
+use lib.Dec.{T, leb, le→leb}
 use lib.ListN.{length, replicate, getD}
-use Rattle.format.specs.Entry.{le, encode}
+use Rattle.format.specs.Entry.{le, encode, textOf}
 use Rattle.format.specs.Ast.{MacroDef}
-use Rattle.format.specs.Flat.{flatDef}
-use Rattle.format.specs.Tape.{Reading, registryRoot, read}
-use Rattle.format.proofs.All.{All, all-nil, all-cons, all-head}
-use Rattle.format.proofs.Registries.{Alone, alone-read, definitions-alone}
+use Rattle.format.specs.Flat.{flatDef, flatRegistry}
+use Rattle.format.specs.Limits.{nodeWeight, callWeight, fitsSizes, fitsDepths}
+use Rattle.format.specs.Replace.{replaceDef, replaceDefs}
+use Rattle.format.specs.DeMorgan.{deMorgan}
+use Rattle.format.specs.Tape.{Reading, Root, small, definitionRoot, registryRoot, accept, rewritten, fits, rewrite, read}
+use Rattle.format.proofs.All.{All, all-nil, all-cons, all-head, all-tail}
+use Rattle.format.proofs.Tests.{and-left, and-right, and-both}
+use Rattle.format.proofs.Utf8.{Whole, all-whole, whole-all}
+use Rattle.format.proofs.Accepted.{Values64, OnTape, accepted-on-tape}
+use Rattle.format.proofs.Encodes.{fitting}
+use Rattle.format.proofs.Exact.{within-limits, on-tape-accepted, lawful-definition, lawful-registry}
+use Rattle.format.proofs.Rewritten.{Rewrites, rewrites-definition, rewrites-registry, rewriting, lighter, read-from}
+use Rattle.format.proofs.Registries.{Fits, Alone, alone-read, definitions-alone}
 use Rattle.definition.specs.Outcome.{Refusal, Outcome, pure}
 use Rattle.definition.specs.Check.{Verdict, checkDef}
 use Rattle.definition.specs.Registry.{build}
 use Rattle.definition.specs.Expand.{unless, expand}
 use Rattle.definition.specs.Answers.{Answer, padded, answer, numberAlone, reading, verdict, messageAlone, messageAnswer, withoutWork, resultAnswer, expandTapes, expandAnswer, checkAnswer}
 use Rattle.definition.specs.Residue.{AllPass}
-use Rattle.definition.specs.Library.{Refused, inFront, refusedFrom, refusedOf, refusedBytes, listBytes, libraryTapes, libraryAnswer, definitionAt, checkFound, checkAtAnswer, refusedAt, ListsEach, Built, CheckedAlone, CheckedPastTheEnd, EachPasses, LibraryLists, EmptyList, EmptyListCovers}
+use Rattle.definition.specs.Library.{Refused, inFront, refusedFrom, refusedOf, refusedBytes, listBytes, libraryTapes, libraryAnswer, definitionAt, checkFound, checkAtAnswer, refusedAt, ListsEach, Built, CheckedAlone, CheckedAsUploaded, CheckedPastTheEnd, EachPasses, LibraryLists, EmptyList, EmptyListCovers}
 use Rattle.definition.proofs.Verdicts.{Given, refuses, Numbered, isBodyRefusal, none-of, numbered-def, nonzero-build}
+use Rattle.definition.proofs.Lookup.{each-def}
 use Rattle.definition.proofs.Demand3.{safe-answer, demand3-on-tapes}
 use Rattle.definition.proofs.Residue.{free-expand}
 
@@ -53,6 +63,90 @@ pub checked-past-the-end : CheckedPastTheEnd
 unfolding checkAtAnswer messageAnswer answer reading unless checkFound verdict
 checked-past-the-end m registry defs b long i h =
     rw (le-leb 2048 m long, b .its-defs, b .builds, past-end defs i h) refl
+
+-- ------------------------------------------------------------------ one index, as it was uploaded
+
+-- what keeps to the figures rewritten keeps to them as it was given
+module _ {A : Type 0} (root : Root A) (r : Rewrites root) (a : A) where
+  small-given : T (small root (root .flat (rewritten root a)) (rewritten root a)) → T (small root (root .flat a) a)
+  unfolding small
+  small-given t =
+      let law = rewriting root r in
+      let new : A = rewritten root a in
+      let texts : Bool = root .texts (root .flat new) in
+      let depths : Bool = fitsDepths (root .deep nodeWeight new) (root .deep callWeight new) in
+      let rest : T (depths && root .few new) = and-right texts _ t in
+      and-both (root .texts (root .flat a)) _ (subst T (law .texts a) (and-left texts _ t))
+      (and-both (fitsDepths (root .deep nodeWeight a) (root .deep callWeight a)) _
+      (lighter root r a (rw (law .nesting a, law .calls a) at (and-left depths _ rest)))
+      (subst T (law .params a) (and-right depths _ rest)))
+
+  sizes-given : Fits (root .flat (rewritten root a)) → Fits (root .flat a)
+  unfolding fitsSizes
+  sizes-given t =
+      let law = rewriting root r in
+      let n : ℕ = length (root .flat a) in
+      let k : ℕ = length (textOf (root .flat a)) in
+      let f = fitting (length (root .flat (rewritten root a))) (length (textOf (root .flat (rewritten root a)))) t in
+      let e : length (textOf (root .flat (rewritten root a))) ≡ k = ap length (law .text a) in
+      and-both (leb n 1024) (leb k 3072) (le→leb n 1024 (omega (arith, f .0, law .entries a))) (le→leb k 3072 (omega (arith, f .1, e)))
+
+-- so that its own tape is read as the rewritten definition
+uploaded-read : (d : MacroDef) → Values64 (flatDef d) → All Whole (flatDef d) → Alone (replaceDef deMorgan d)
+    → read definitionRoot (encode (flatDef d)) ≡ Reading.accepted (replaceDef deMorgan d)
+unfolding read rewrite fits definitionRoot
+uploaded-read d values texts a =
+    let new : MacroDef = replaceDef deMorgan d in
+    let given : OnTape definitionRoot (encode (flatDef d)) d =
+    record {
+      encoded = refl;
+      range =
+          record {
+            values = values;
+            sizes = sizes-given definitionRoot rewrites-definition d (a .on-tape .range .sizes);
+            texts = whole-all texts;
+          };
+      small = small-given definitionRoot rewrites-definition d (a .on-tape .small);
+    } in
+    let sizes : Bool = fitsSizes (length (flatDef new)) (length (textOf (flatDef new))) in
+    rw (on-tape-accepted definitionRoot lawful-definition given)
+    (within-limits (sizes && small definitionRoot (flatDef new) new) new (and-both sizes _ (a .on-tape .range .sizes) (a .on-tape .small)))
+
+rewritten-at : (defs : List MacroDef) (i : ℕ) (d : MacroDef) → definitionAt defs i ≡ some d
+    → definitionAt (replaceDefs deMorgan defs) i ≡ some (replaceDef deMorgan d)
+unfolding definitionAt replaceDefs
+rewritten-at [] i d e = absurd (Option·none-ne-some d e)
+rewritten-at (x ∷ xs) zero d e = let q : x ≡ d = cc in ap (λ (y : MacroDef). some (replaceDef deMorgan y)) q
+rewritten-at (x ∷ xs) (suc i) d e = rewritten-at xs i d e
+
+module _ (registry : List ℕ) (defs uploaded : List MacroDef) (b : Built registry defs)
+    (h : accept registryRoot registry ≡ Reading.accepted uploaded) where
+  uploaded-rewritten : replaceDefs deMorgan uploaded ≡ defs
+  unfolding registryRoot
+  uploaded-rewritten =
+      let f = read-from registryRoot rewrites-registry registry defs (b .its-defs) in
+      let both : Reading.accepted (f .given) ≡ Reading.accepted uploaded = sym (f .was-given) ∙ h in
+      let same : f .given ≡ uploaded = cc in
+      ap (replaceDefs deMorgan) (sym same) ∙ f .is-rewritten
+
+  its-place : (i : ℕ) (d : MacroDef) → definitionAt uploaded i ≡ some d → definitionAt defs i ≡ some (replaceDef deMorgan d)
+  its-place i d e = ap (λ (x : List MacroDef). definitionAt x i) (sym uploaded-rewritten) ∙ rewritten-at uploaded i d e
+
+  its-reading : (i : ℕ) (d : MacroDef) → definitionAt uploaded i ≡ some d
+      → read definitionRoot (encode (flatDef d)) ≡ Reading.accepted (replaceDef deMorgan d)
+  unfolding registryRoot flatRegistry
+  its-reading i d e =
+      let t = accepted-on-tape registryRoot (lawful-registry .spells) registry (b .is-tape) uploaded h in
+      let whole = all-whole (flatRegistry uploaded) (t .range .texts) in
+      let own = definitions-alone registry (b .is-tape) defs (b .its-defs) in
+      uploaded-read d (found-at (each-def uploaded (all-tail (t .range .values))) i d e)
+      (found-at (each-def uploaded (all-tail whole)) i d e)
+      (found-at own i (replaceDef deMorgan d) (its-place i d e))
+
+pub checked-as-uploaded : CheckedAsUploaded
+unfolding checkAtAnswer checkAnswer reading unless checkFound
+checked-as-uploaded m registry defs uploaded b h i d e =
+    rw (b .its-defs, b .builds, its-place registry defs uploaded b h i d e, its-reading registry defs uploaded b h i d e) refl
 
 -- ------------------------------------------------------------------ the list
 
