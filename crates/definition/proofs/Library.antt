@@ -33,7 +33,7 @@ use Rattle.definition.specs.Registry.{build}
 use Rattle.definition.specs.Expand.{unless, expand}
 use Rattle.definition.specs.Answers.{Answer, padded, answer, numberAlone, reading, verdict, messageAlone, messageAnswer, withoutWork, resultAnswer, expandTapes, expandAnswer, checkAnswer}
 use Rattle.definition.specs.Residue.{AllPass}
-use Rattle.definition.specs.Library.{Refused, inFront, refusedFrom, refusedOf, refusedBytes, listBytes, libraryTapes, libraryAnswer, definitionAt, checkFound, checkAtAnswer, refusedAt, ListsEach, Built, CheckedAlone, CheckedAsUploaded, CheckedPastTheEnd, EachPasses, LibraryLists, EmptyList, EmptyListCovers}
+use Rattle.definition.specs.Library.{Refused, inFront, refusedFrom, refusedOf, refusedBytes, listBytes, libraryTapes, libraryAnswer, definitionAt, checkFound, checkAtAnswer, refusedAt, ListsEach, Built, CheckedAlone, CheckedAsUploaded, CheckedPastTheEnd, EachPasses, LibraryLists, EmptyAsUploaded, EmptyList, EmptyListCovers}
 use Rattle.definition.proofs.Verdicts.{Given, refuses, Numbered, isBodyRefusal, none-of, numbered-def, nonzero-build}
 use Rattle.definition.proofs.Lookup.{each-def}
 use Rattle.definition.proofs.Demand3.{safe-answer, demand3-on-tapes}
@@ -276,6 +276,34 @@ library-lists r m registry defs large long b =
         λ h. same ∙ ap (λ (x : List Refused). padded r (listBytes x)) (none-refused 0 defs (pass-each defs a h)),
       );
     }
+
+-- an index that has a rewritten definition has one that was uploaded
+was-at : (defs : List MacroDef) (i : ℕ) (d : MacroDef) → definitionAt (replaceDefs deMorgan defs) i ≡ some d
+    → (x : MacroDef) × (definitionAt defs i ≡ some x)
+unfolding definitionAt replaceDefs
+was-at [] i d e = absurd (Option·none-ne-some d e)
+was-at (x ∷ xs) zero d e = (x, refl)
+was-at (x ∷ xs) (suc i) d e = was-at xs i d e
+
+pub empty-as-uploaded : EmptyAsUploaded
+empty-as-uploaded r m registry defs uploaded large long b h =
+    let l = library-lists r m registry defs large long b .empty-exactly in
+    (λ p. to-uploaded (l .0 p), λ p. l .1 (from-uploaded p))
+  where
+    -- both are what the registry's own check of that index answers
+    same : (n i : ℕ) (d x : MacroDef) → definitionAt uploaded i ≡ some d → definitionAt defs i ≡ some x
+        → checkAnswer n (encode (flatDef d)) ≡ checkAnswer n (encode (flatDef x))
+    same n i d x e k = sym (checked-as-uploaded n registry defs uploaded b h i d e) ∙ checked-alone n registry defs b i x k
+
+    to-uploaded : EachPasses defs → EachPasses uploaded
+    to-uploaded p i d e n q =
+        let k = its-place registry defs uploaded b h i d e in
+        ap (λ (x : Answer). x .number) (same n i d (replaceDef deMorgan d) e k) ∙ p i (replaceDef deMorgan d) k n q
+
+    from-uploaded : EachPasses uploaded → EachPasses defs
+    from-uploaded p i d e n q =
+        let u = was-at uploaded i d (ap (λ (x : List MacroDef). definitionAt x i) (uploaded-rewritten registry defs uploaded b h) ∙ e) in
+        ap (λ (x : Answer). x .number) (sym (same n i (u .0) d (u .1) e)) ∙ p i (u .0) (u .1) n q
 
 -- ------------------------------------------------------------------ a registry whose list is empty
 
