@@ -1,14 +1,14 @@
 -- Document 02's point 8, of the operations: specs/Weeks.antt.
 -- Assumes nothing.
 use Prim.Native.Nat.{ℕ}
-use mathlib.Core.Path.{_≡_, refl, sym, subst}
-use mathlib.Core.List.{List, _++_, List·Memᴰ·head, List·Memᴰ·tail, List·Memᴰ·not-nil, Memᴰ·append-left, Memᴰ·append-right}
+use mathlib.Core.Path.{_≡_, refl, subst}
+use mathlib.Core.List.{List, _++_, Memᴰ·append-left, Memᴰ·append-right}
 use lib.Dec.{T}
 use Rattle.format.specs.Entry.{Text, Entry}
 use Rattle.format.specs.Ast.{WithinSpec, Call, Tree, argsOf}
 use Rattle.format.specs.Flat.{flatCondition, flatCall, flatArgs, flatTree, flatDef, flatRegistry}
 use Rattle.format.specs.Names.{_∈_}
-use Rattle.format.proofs.All.{All, all-nil, all-cons, all-tail, all-map}
+use Rattle.format.proofs.All.{All, all-cons, all-tail, all-map, of-all}
 use Rattle.definition.specs.Outcome.{Outcome}
 use Rattle.definition.specs.Check.{checkTemporalConditionBody, checkWithinInBody}
 use Rattle.definition.specs.Weeks.{isInterval, KeepsIntervals, SubstituteKeepsIntervals, ExpandKeepsIntervals, exchangedWithin, exchanged, CheckExchanged, BuildExchanged}
@@ -38,11 +38,6 @@ closed given file =
       listed = λ k l m n. absurd n;
       arrayed = λ k l m n. absurd n;
     }
-
-of-all : {P : Entry → Type 0} {es : List Entry} → All P es → (e : Entry) → e ∈ es → P e
-of-all all-nil e m = absurd (List·Memᴰ·not-nil m)
-of-all {P} (all-cons p h) e (List·Memᴰ·head q) = subst P (sym q) p
-of-all (all-cons p h) e (List·Memᴰ·tail m) = of-all h e m
 
 keeps : (given : List Entry) {o : Outcome Tree} → Bears (Kept given) flatTree o → KeepsIntervals given o
 keeps given h t charged q = of-all (of-done (subst (λ (o : Outcome Tree). Bears (Kept given) flatTree o) q h))
