@@ -1,7 +1,8 @@
--- Document 02's point 8, of the operations: specs/Weeks.antt.
+-- Document 02's point 8, of the operations: specs/Weeks.antt. Borne has what is kept, SameVerdicts the check and the registry,
+-- ExchangedSubstitute and ExchangedExpand the two walks.
 -- Assumes nothing.
 use Prim.Native.Nat.{ℕ}
-use mathlib.Core.Path.{_≡_, refl, subst}
+use mathlib.Core.Path.{_≡_, refl, ap, subst}
 use mathlib.Core.List.{List, _++_, Memᴰ·append-left, Memᴰ·append-right}
 use lib.Dec.{T}
 use Rattle.format.specs.Entry.{Text, Entry}
@@ -11,7 +12,7 @@ use Rattle.format.specs.Names.{_∈_}
 use Rattle.format.proofs.All.{All, all-cons, all-tail, all-map, of-all}
 use Rattle.definition.specs.Outcome.{Outcome}
 use Rattle.definition.specs.Check.{checkTemporalConditionBody, checkWithinInBody}
-use Rattle.definition.specs.Weeks.{isInterval, KeepsIntervals, SubstituteKeepsIntervals, ExpandKeepsIntervals, exchangedWithin, exchanged, CheckExchanged, BuildExchanged}
+use Rattle.definition.specs.Weeks.{isInterval, KeepsIntervals, SubstituteKeepsIntervals, ExpandKeepsIntervals, exchangedWithin, exchanged, CheckExchanged, BuildExchanged, mapOutcome, SubstituteExchanged, ExpandExchanged}
 use Rattle.definition.proofs.Good.{of-done}
 use Rattle.definition.proofs.Lookup.{each-def}
 use Rattle.definition.proofs.Verdicts.{Any}
@@ -19,6 +20,8 @@ use Rattle.definition.proofs.Rules.{Closed, Unasked, Bears}
 use Rattle.definition.proofs.Borne.{substitute-bears, expand-bears, all-unasked}
 use Rattle.definition.proofs.Generated.{all-in}
 use Rattle.definition.proofs.SameVerdicts.{Unseen, check-unseen, build-unseen}
+use Rattle.definition.proofs.ExchangedSubstitute.{Mapped, mapped, mapped-refused, both-substitute}
+use Rattle.definition.proofs.ExchangedExpand.{both-expand}
 
 -- ------------------------------------------------------------------ "code and amount kept"
 
@@ -86,3 +89,16 @@ check-exchanged def = check-unseen exchanged unseen def
 
 pub build-exchanged : BuildExchanged
 build-exchanged defs = build-unseen exchanged defs
+
+-- ------------------------------------------------------------------ substitution and expansion
+
+of-mapped : {A B : Type 0} {f : A → B} {o : Outcome A} {o′ : Outcome B} → Mapped f o o′ → o′ ≡ mapOutcome f o
+unfolding mapOutcome
+of-mapped (mapped {n = n} e) = ap (λ b. Outcome.done b n) e
+of-mapped mapped-refused = refl
+
+pub substitute-exchanged : SubstituteExchanged
+substitute-exchanged limit file def call = of-mapped (both-substitute limit file def call)
+
+pub expand-exchanged : ExpandExchanged
+expand-exchanged limit file defs c = of-mapped (both-expand limit file defs c)

@@ -12,7 +12,7 @@ use Rattle.format.specs.Ast.{TimeUnit, Interval, WithinSpec, Condition, Call, T
 use Rattle.format.specs.Flat.{flatCondition, flatArgs, flatTree, flatDef, flatRegistry}
 use Rattle.format.specs.Macro.{isCode}
 use Rattle.format.specs.Names.{_∈_}
-use Rattle.format.specs.Replace.{Replacement, replaceDef, replaceDefs}
+use Rattle.format.specs.Replace.{Replacement, replaceCondition, replaceCall, replaceTree, replaceDef, replaceDefs}
 use Rattle.definition.specs.Outcome.{Outcome}
 use Rattle.definition.specs.Check.{checkDef}
 use Rattle.definition.specs.Registry.{build}
@@ -68,8 +68,25 @@ CheckExchanged = (def : MacroDef) → checkDef (replaceDef exchanged def) ≡ ch
 abbrev pub BuildExchanged : Type 0
 BuildExchanged = (defs : List MacroDef) → build (replaceDefs exchanged defs) ≡ build defs
 
+-- substitution and expansion answer the same refusal, or the same tree with days and weeks exchanged, each with the same charge
+unfoldable pub mapOutcome : {A B : Type 0} → (A → B) → Outcome A → Outcome B
+mapOutcome f (Outcome.done a n) = Outcome.done (f a) n
+mapOutcome f (Outcome.refused r n) = Outcome.refused r n
+
+abbrev pub SubstituteExchanged : Type 0
+SubstituteExchanged =
+    (limit file : ℕ) (def : MacroDef) (call : Call)
+    → substitute limit file (replaceDef exchanged def) (replaceCall exchanged call)
+    ≡ mapOutcome (replaceTree exchanged) (substitute limit file def call)
+
+abbrev pub ExpandExchanged : Type 0
+ExpandExchanged =
+    (limit file : ℕ) (defs : List MacroDef) (c : Condition)
+    → expand limit file (replaceDefs exchanged defs) (replaceCondition exchanged c)
+    ≡ mapOutcome (replaceTree exchanged) (expand limit file defs c)
+
 -- Whoever unfolds this unfolds every definition of this file.
 unfoldable pub openWeeks : Unit {0}
 unfolding
-    isInterval exchangedUnit exchangedInterval exchangedWithin exchanged
+    isInterval exchangedUnit exchangedInterval exchangedWithin exchanged mapOutcome
 openWeeks = tt
