@@ -7,6 +7,7 @@ use mathlib.Core.List.{List, [], _∷_}
 use mathlib.Core.Bool.{Bool, true, false}
 use mathlib.Core.Option.{some}
 use lib.Dec.{leb}
+use borrow.Author.Tests.{eq-eqb, ne-eqb}
 use Rattle.format.specs.Entry.{Text}
 use Rattle.format.specs.Ast.{MacroDef}
 use Rattle.format.specs.Flat.{flatParams}
@@ -35,7 +36,7 @@ use Rattle.registry.specs.declared.Found.{Found}
 use Rattle.registry.specs.declared.Found.the-variants.{Nothing}
 use Rattle.nodes.specs.declared.Heading.{Heading}
 use Rattle.registry.proofs.Standing.{Defined, Finds, finds-nothing, finds, get-finds, indexed-registry}
-use Rattle.registry_held.specs.Held.{layoutOf, of-tape, of-nothing, Builds, Describes, FoundMatches, GetMatches}
+use Rattle.registry_held.specs.Held.{layoutOf, Holds, of-tape, of-nothing, Builds, Describes, FoundMatches, foundIn, GetMatches}
 use Rattle.registry_held.specs.declared.Built.{Built}
 
 -- ------------------------------------------------------------------ building
@@ -77,6 +78,7 @@ pub builds : (s : List ℕ) (m : ℕ) (message : List ℕ) (b : Built) → Bytes
 builds s m message b bytes e q =
     record {
       answers = e;
+      its-layout = q;
       holds = λ z.
           let x = was-read m s (sym (ap (λ (a : Answer). a .number) e) ∙ z) in
           (x .0, x .1, of-tape z (x .1) (opened-read s bytes (x .1) ∙ ap opened.Tape (sym q)));
@@ -113,20 +115,26 @@ module _ {s : List ℕ} {l : Layout} where
 -- a registry that did not pass holds nothing
 pub nothing-found : (s name : List ℕ) (b : Built) → (b .answer .number ≡ 0 → ⊥)
     → GetMatches s b name Nothing
-unfolding FoundMatches get
-nothing-found s name b n defs (of-tape z e a) = absurd (n z)
-nothing-found s name b n defs (of-nothing h) = tt
+unfolding foundIn FoundMatches get
+nothing-found s name b n = record { by-index = rw (ne-eqb (b .answer .number) 0 n, foundIn) refl; as-defined = go }
+  where
+    go : (defs : List MacroDef) → Holds s b defs → FoundMatches s (b .layout) Nothing (get defs name)
+    go defs (of-tape z e a) = absurd (n z)
+    go defs (of-nothing h) = tt
 
 pub name-found : (s name : List ℕ) (b : Built) {f : Found} → Bytes s → b .answer .number ≡ 0
     → f ≡ getAt s (b .layout) (indexAt s (b .layout) 255) name
     → GetMatches s b name f
-unfolding registryRoot mapReading
-name-found s name b {f} bytes z q defs (of-nothing h) = absurd (h z)
-name-found s name b {f} bytes z q defs (of-tape n e a) =
-    let x = accepted-root registry-root s bytes (b .layout) a in
-    let stands = accepted-alone registry-root rewrites-registry (x .1) in
-    let read-once : Reading.accepted (replaceDefs deMorgan (x .0)) ≡ Reading.accepted defs =
-    sym (as-accepted s bytes ∙ ap (mapReading (rewritten registryRoot)) (x .1 .reading)) ∙ e in
-    let same : replaceDefs deMorgan (x .0) ≡ defs = cc in
-    rw q (subst (λ (ds : List MacroDef). FoundMatches s (b .layout) (getAt s (b .layout) (indexAt s (b .layout) 255) name) (get ds name)) same
-    (found-matches (x .0) name (get-finds (indexed-registry (x .0) stands) name)))
+unfolding foundIn registryRoot mapReading
+name-found s name b {f} bytes z q = record { by-index = rw (eq-eqb (b .answer .number) 0 z, foundIn) q; as-defined = go }
+  where
+    go : (defs : List MacroDef) → Holds s b defs → FoundMatches s (b .layout) f (get defs name)
+    go defs (of-nothing h) = absurd (h z)
+    go defs (of-tape n e a) =
+        let x = accepted-root registry-root s bytes (b .layout) a in
+        let stands = accepted-alone registry-root rewrites-registry (x .1) in
+        let read-once : Reading.accepted (replaceDefs deMorgan (x .0)) ≡ Reading.accepted defs =
+        sym (as-accepted s bytes ∙ ap (mapReading (rewritten registryRoot)) (x .1 .reading)) ∙ e in
+        let same : replaceDefs deMorgan (x .0) ≡ defs = cc in
+        rw q (subst (λ (ds : List MacroDef). FoundMatches s (b .layout) (getAt s (b .layout) (indexAt s (b .layout) 255) name) (get ds name)) same
+        (found-matches (x .0) name (get-finds (indexed-registry (x .0) stands) name)))

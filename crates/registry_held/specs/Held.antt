@@ -3,7 +3,9 @@
 use Prim.Native.Nat.{ℕ, _+_}
 use mathlib.Core.Path.{_≡_}
 use mathlib.Core.List.{List, []}
+use mathlib.Core.Bool.{true, false}
 use mathlib.Core.Option.{Option, none, some}
+use lib.Dec.{eqb}
 use lib.ListN.{length}
 use Rattle.format.specs.Entry.{Text, textOf}
 use Rattle.format.specs.Ast.{MacroBody, MacroDef}
@@ -24,6 +26,7 @@ use Rattle.tape.specs.declared.layout.Place.{Place}
 use Rattle.nodes.specs.Node.{nameAt}
 use Rattle.nodes.specs.declared.Heading.{Heading}
 use Rattle.answer.specs.Matches.{answerWith}
+use Rattle.registry.specs.Places.{indexAt, getAt}
 use Rattle.registry.specs.declared.Found.{Found}
 use Rattle.registry.specs.declared.Found.the-variants.{Definition, Nothing}
 use Rattle.registry_held.specs.declared.Built.{Built}
@@ -41,9 +44,11 @@ pub data Holds (s : List ℕ) (b : Built) : List MacroDef → Type 0 where
       → acceptOf s grammar.definitions ≡ Tape (b .layout) → Holds s b defs
   of-nothing : (b .answer .number ≡ 0 → ⊥) → Holds s b []
 
--- The answer is that of the operation. If its number is 0, the registry holds the definitions of its tape.
+-- The answer is that of the operation, and the layout that of the tape. If the number is 0, the registry holds the definitions of its
+-- tape.
 pub record Builds (s : List ℕ) (m : ℕ) (message : List ℕ) (b : Built) : Type 0 where
   pub answers : answerWith (b .answer) [] [] message ≡ registryAnswer m s
+  pub its-layout : b .layout ≡ layoutOf (acceptOf s grammar.definitions)
   pub holds : b .answer .number ≡ 0 → (defs : List MacroDef) × (read registryRoot s ≡ Reading.accepted defs) × Holds s b defs
 
 -- ------------------------------------------------------------------ the definition of a name
@@ -67,6 +72,11 @@ FoundMatches s l Nothing (some d) = ⊥
 FoundMatches s l (Definition h params end) none = ⊥
 FoundMatches s l (Definition h params end) (some d) = Describes s l h params d
 
--- f is what the definition finds of a name, whatever definitions the registry holds
-abbrev pub GetMatches : List ℕ → Built → Text → Found → Type 0
-GetMatches s b name f = (defs : List MacroDef) → Holds s b defs → FoundMatches s (b .layout) f (get defs name)
+-- what a name finds by the index of the tape, in a registry that passed; in another it finds nothing
+unfoldable pub foundIn : List ℕ → Built → Text → Found
+foundIn s b name = elim (eqb (b .answer .number) 0) [ true ↦ getAt s (b .layout) (indexAt s (b .layout) 255) name | false ↦ Nothing ]
+
+-- f is found so, and it is what the definition finds of the name, whatever definitions the registry holds
+pub record GetMatches (s : List ℕ) (b : Built) (name : Text) (f : Found) : Type 0 where
+  pub by-index : f ≡ foundIn s b name
+  pub as-defined : (defs : List MacroDef) → Holds s b defs → FoundMatches s (b .layout) f (get defs name)
