@@ -1,5 +1,7 @@
 // What an operation returns, and how it ends: the result and zeros behind it, or zeros; zeros in the work buffer; the message and zeros
 // behind it. An operation has only the buffers it needs, and one that it has not is empty here.
+#![tactic(auto)]
+
 ghost use Rattle.std.specs.Prelude.{[], ◌≡◌, length};
 ghost use Rattle.definition.specs.Outcome.{refusal, Outcome};
 ghost use Rattle.definition.specs.Answers.{long_buffers, message_alone, number_alone};
@@ -15,7 +17,7 @@ use walk_state::writing::Walk;
 
 pub mod tapes;
 
-#[derive(Drop)]
+#[derive(Clone, Copy)]
 pub struct Answer {
     pub number: u32,
     pub span: Span,
@@ -24,7 +26,7 @@ pub struct Answer {
 }
 
 // What the check and the registry find: nothing to refuse, or the first refusal.
-#[derive(Drop)]
+#[derive(Clone, Copy)]
 pub enum Verdict {
     Passes,
     Refused(Refused),

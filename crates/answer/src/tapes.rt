@@ -7,7 +7,7 @@ use tape::header::Opened;
 use tape::layout::Layout;
 
 // The layouts of two tapes, or the number of the first refusal.
-#[derive(Drop)]
+#[derive(Clone, Copy)]
 pub enum Accepted {
     Both(Layout, Layout),
     Refused(u32),

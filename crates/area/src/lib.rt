@@ -4,6 +4,8 @@
 // b + 9216. Several areas may stand in one slice; what a function here writes stays within the area at the base it is given.
 // When an area has no room for what is to be appended, or its slice is too short for it, the writer says so from then on, and
 // nothing more is written: the walk goes on, since a refusal that it meets later comes first.
+#![tactic(auto)]
+
 ghost use Rattle.std.specs.Prelude.{◌≡◌, ◌+◌, ◌*◌, ◌<◌, ◌≤◌, [], ◌++◌, length};
 ghost use Rattle.std.proofs.lemmas.List.Edits.{sets};
 ghost use Rattle.format.specs.Entry.{le};
@@ -14,7 +16,7 @@ ghost use Rattle.buffer.specs.Buffer.{Decides, message_in, write_in};
 ghost use Rattle.area.specs.Area.{area_in, empty_at, overflow_of, grown, headed, RoomFor, append_in, put_in, put_text_in, append_out_in, patch_in, finished_in};
 
 // A writer's state: its area's base, how many entries and text bytes stand there, and whether they were too many.
-#[derive(Drop)]
+#[derive(Clone, Copy)]
 pub struct Writer {
     pub base: usize,
     pub n: usize,

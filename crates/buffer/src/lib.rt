@@ -1,6 +1,8 @@
 // Bytes in lent slices: written, zeroed, and read as numbers; and messages, written piece by piece.
 //
 // A write goes as far as its slice reaches, and a read takes what lies past the end for zeros, so nothing here asks anything of a caller.
+#![tactic(auto)]
+
 ghost use Rattle.std.specs.Prelude.{◌≡◌, [], min, ◌+◌, ◌≤◌, ◌<◌, length, get_or};
 ghost use Rattle.std.proofs.lemmas.List.Edits.{sets};
 ghost use Rattle.format.specs.Entry.{le};

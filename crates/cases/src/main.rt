@@ -1,17 +1,20 @@
 // Document 01's fourteen bench cases, each an expansion by the operation itself. Prints case, number, start, end and charged.
-use libc::STDOUT_FILENO;
+#![tactic(auto)]
+
+use std::io;
 use tape::part::part_of;
 
-fn main() {
+fn main(rt: HostRuntime) -> io::Result<()> {
     let mut registry = [0u8; 12296];
     let n = samples::registry(&mut registry);
-    run_all(part_of(&registry, 0, n));
+    run_all(&rt, part_of(&registry, 0, n))
 }
 
-fn run_all(registry: &[u8]) {
+fn run_all(rt: &impl Print, registry: &[u8]) -> io::Result<()> {
     for case in 1..15u32 {
-        run(case, registry);
+        run(rt, case, registry)?;
     }
+    Ok(())
 }
 
 // Limit 100 unless said.
@@ -24,13 +27,18 @@ fn limit_of(case: u32) -> u32 {
     }
 }
 
-fn run(case: u32, registry: &[u8]) {
+fn run(rt: &impl Print, case: u32, registry: &[u8]) -> io::Result<()> {
     let mut condition = [0u8; 12296];
     let n = samples::condition(case, &mut condition);
-    expand(case, registry, part_of(&condition, 0, n));
+    expand(rt, case, registry, part_of(&condition, 0, n))
 }
 
-fn expand<'a>(case: u32, registry: &'a [u8], condition: &'a [u8]) {
+fn expand<'a>(
+    rt: &impl Print,
+    case: u32,
+    registry: &'a [u8],
+    condition: &'a [u8],
+) -> io::Result<()> {
     let mut result = [0u8; 12296];
     let mut work = [0u8; 65536];
     let mut message = [0u8; 2048];
@@ -44,14 +52,13 @@ fn expand<'a>(case: u32, registry: &'a [u8], condition: &'a [u8]) {
         &mut message,
         &mut [],
     );
-    print(case, b" ");
-    print(answer.number, b" ");
-    print(answer.span.start, b" ");
-    print(answer.span.end, b" ");
-    print(answer.charged, b"\n");
+    print(rt, case, " ")?;
+    print(rt, answer.number, " ")?;
+    print(rt, answer.span.start, " ")?;
+    print(rt, answer.span.end, " ")?;
+    print(rt, answer.charged, "\n")
 }
 
-fn print(n: u32, behind: &[u8]) {
-    io::print_decimal(STDOUT_FILENO, n as u64);
-    io::write_all(STDOUT_FILENO, behind);
+fn print(rt: &impl Print, n: u32, behind: &str) -> io::Result<()> {
+    print!(rt; "{n}{behind}")
 }

@@ -1,4 +1,6 @@
 // The body check of macros/mod.rs (document 01, module 4): the first refusal of a definition's body.
+#![tactic(auto)]
+
 ghost use Rattle.std.specs.Prelude.{[], ◌≡◌, length};
 ghost use Rattle.answer.specs.Matches.{answer_with};
 ghost use Rattle.definition.specs.Answers.{check_answer};

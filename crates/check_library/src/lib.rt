@@ -1,5 +1,7 @@
 // Document 02, point 1: the body check of every definition of a registry, and of one of them by its index. The body check's own walk runs
 // on the registry's tape, at the places that its index has.
+#![tactic(auto)]
+
 ghost use Rattle.std.specs.Prelude.{◌≡◌, [], ◌/◌, length};
 ghost use Rattle.format.specs.Entry.{le};
 ghost use Rattle.definition.specs.Answers.{number_alone, without_work};

@@ -1,4 +1,6 @@
 // The checks of the names, withins, slots and binders of a body.
+#![tactic(auto)]
+
 ghost use Rattle.std.specs.Prelude.{◌≡◌};
 ghost use Rattle.definition.specs.Check.{contains};
 ghost use Rattle.nodes.specs.Node.{name_at};
@@ -13,7 +15,7 @@ use tape::layout::{Layout, Place};
 use walk_state::reading::{Checked, malformed, passed, stop, without_message};
 
 // A definition's tape, and where its parameters stand.
-#[derive(Drop)]
+#[derive(Clone, Copy)]
 pub struct Declared {
     pub layout: Layout,
     pub params: Place,

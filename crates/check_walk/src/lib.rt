@@ -1,5 +1,7 @@
 // The walk of the body check over a body: functions that call one another, with nesting that falls. Each takes the answer so far, and
 // hands it on once it is a refusal.
+#![tactic(auto)]
+
 ghost use Rattle.std.specs.Prelude.{◌≡◌};
 ghost use Rattle.walk_state.specs.Reading.{items_in};
 ghost use Rattle.check_parts.specs.Names.{within_in};
@@ -35,7 +37,7 @@ pub fn check_temporal_value_body(nesting: usize, s: &[u8], d: Declared, w: Check
     check_temporal_term(nesting, s, d, 0, w)
 }
 
-#[cycle(agg_both_check_temporal_agg_body_check_temporal_condition_body_check_temporal_term_condition_fields_formerly_sides_since_term_terms)]
+#[cycle(walk)]
 pub fn check_temporal_condition_body(nesting: usize, s: &[u8], d: Declared, w: Checked) -> Checked
     ensures { result ≡ (walkers s.now d nesting).condition w }
 {
@@ -51,7 +53,7 @@ pub fn check_temporal_condition_body(nesting: usize, s: &[u8], d: Declared, w: C
     }
 }
 
-#[cycle(agg_both_check_temporal_agg_body_check_temporal_condition_body_check_temporal_term_condition_fields_formerly_sides_since_term_terms)]
+#[cycle(walk)]
 fn condition(nesting: usize, s: &[u8], d: Declared, node: ConditionNode, next: Place) -> Checked
     ensures { result ≡ condition_node_in s.now d (walkers s.now d nesting) node next }
 {
@@ -82,7 +84,7 @@ fn condition(nesting: usize, s: &[u8], d: Declared, node: ConditionNode, next: P
 }
 
 // Two conditions, one behind the other.
-#[cycle(agg_both_check_temporal_agg_body_check_temporal_condition_body_check_temporal_term_condition_fields_formerly_sides_since_term_terms)]
+#[cycle(walk)]
 fn both(nesting: usize, s: &[u8], d: Declared, w: Checked) -> Checked
     ensures { result ≡ (walkers s.now d nesting).condition ((walkers s.now d nesting).condition w) }
 {
@@ -91,7 +93,7 @@ fn both(nesting: usize, s: &[u8], d: Declared, w: Checked) -> Checked
 }
 
 // A within and a condition.
-#[cycle(agg_both_check_temporal_agg_body_check_temporal_condition_body_check_temporal_term_condition_fields_formerly_sides_since_term_terms)]
+#[cycle(walk)]
 fn formerly(nesting: usize, s: &[u8], d: Declared, span: u64, w: Checked) -> Checked
     ensures { result ≡ (walkers s.now d nesting).condition (within_in s.now d span w) }
 {
@@ -100,7 +102,7 @@ fn formerly(nesting: usize, s: &[u8], d: Declared, span: u64, w: Checked) -> Che
 }
 
 // The tape has left, within, right. A refusal of the within comes before one of the left side.
-#[cycle(agg_both_check_temporal_agg_body_check_temporal_condition_body_check_temporal_term_condition_fields_formerly_sides_since_term_terms)]
+#[cycle(walk)]
 fn since(nesting: usize, s: &[u8], d: Declared, span: u64, left: Place) -> Checked
     ensures { result ≡ since_in s.now d (walkers s.now d nesting) span left }
 {
@@ -120,7 +122,7 @@ fn behind(s: &[u8], l: Layout, left: Place, w: Checked) -> Checked
 }
 
 // A list of fields.
-#[cycle(agg_both_check_temporal_agg_body_check_temporal_condition_body_check_temporal_term_condition_fields_formerly_sides_since_term_terms)]
+#[cycle(walk)]
 fn fields(nesting: usize, s: &[u8], d: Declared, span: u64, w: Checked) -> Checked
     ensures { result ≡ fields_in s.now d (walkers s.now d nesting) span w }
 {
@@ -142,7 +144,7 @@ fn fields(nesting: usize, s: &[u8], d: Declared, span: u64, w: Checked) -> Check
     a
 }
 
-#[cycle(agg_both_check_temporal_agg_body_check_temporal_condition_body_check_temporal_term_condition_fields_formerly_sides_since_term_terms)]
+#[cycle(walk)]
 fn check_temporal_agg_body(nesting: usize, s: &[u8], d: Declared, w: Checked) -> Checked
     ensures { result ≡ (walkers s.now d nesting).agg w }
 {
@@ -158,7 +160,7 @@ fn check_temporal_agg_body(nesting: usize, s: &[u8], d: Declared, w: Checked) ->
     }
 }
 
-#[cycle(agg_both_check_temporal_agg_body_check_temporal_condition_body_check_temporal_term_condition_fields_formerly_sides_since_term_terms)]
+#[cycle(walk)]
 fn agg(nesting: usize, s: &[u8], d: Declared, node: AggNode, next: Place) -> Checked
     ensures { result ≡ agg_node_in s.now d (walkers s.now d nesting) node next }
 {
@@ -177,7 +179,7 @@ fn agg(nesting: usize, s: &[u8], d: Declared, node: AggNode, next: Place) -> Che
     }
 }
 
-#[cycle(agg_both_check_temporal_agg_body_check_temporal_condition_body_check_temporal_term_condition_fields_formerly_sides_since_term_terms)]
+#[cycle(walk)]
 fn check_temporal_term(nesting: usize, s: &[u8], d: Declared, span: u64, w: Checked) -> Checked
     ensures { result ≡ (walkers s.now d nesting).term span w }
 {
@@ -193,7 +195,7 @@ fn check_temporal_term(nesting: usize, s: &[u8], d: Declared, span: u64, w: Chec
     }
 }
 
-#[cycle(agg_both_check_temporal_agg_body_check_temporal_condition_body_check_temporal_term_condition_fields_formerly_sides_since_term_terms)]
+#[cycle(walk)]
 fn term(nesting: usize, s: &[u8], d: Declared, span: u64, node: TermNode, next: Place) -> Checked
     ensures { result ≡ term_node_in s.now d (walkers s.now d nesting) span node next }
 {
@@ -210,7 +212,7 @@ fn term(nesting: usize, s: &[u8], d: Declared, span: u64, node: TermNode, next: 
 }
 
 // Two terms, one behind the other.
-#[cycle(agg_both_check_temporal_agg_body_check_temporal_condition_body_check_temporal_term_condition_fields_formerly_sides_since_term_terms)]
+#[cycle(walk)]
 fn sides(nesting: usize, s: &[u8], d: Declared, span: u64, w: Checked) -> Checked
     ensures { result ≡ (walkers s.now d nesting).term span ((walkers s.now d nesting).term span w) }
 {
@@ -219,7 +221,7 @@ fn sides(nesting: usize, s: &[u8], d: Declared, span: u64, w: Checked) -> Checke
 }
 
 // The items of an array.
-#[cycle(agg_both_check_temporal_agg_body_check_temporal_condition_body_check_temporal_term_condition_fields_formerly_sides_since_term_terms)]
+#[cycle(walk)]
 fn terms(nesting: usize, s: &[u8], d: Declared, span: u64, count: u64, w: Checked) -> Checked
     ensures { result ≡ items_in ((walkers s.now d nesting).term span) count w }
 {

@@ -3,6 +3,8 @@
 //
 // On the tape an entry 2 becomes 3, 1, 3 in front of its left side, and a 3 comes in front of its right one; every other entry stays,
 // and the text as it is. The tape has three entries more for each Or.
+#![tactic(auto)]
+
 ghost use Rattle.std.specs.Prelude.{◌≡◌, ◌&&◌, [], ◌+◌, ◌*◌, ◌≤◌, eqb, length, drop};
 ghost use Rattle.format.specs.Macro.{tally};
 ghost use Rattle.tape.specs.Layouts.{Held};
@@ -57,7 +59,7 @@ fn begins(sides: &[u64], top: usize, at: usize) -> bool
 }
 
 // The top of the list, and where the next entry goes.
-#[derive(Drop)]
+#[derive(Clone, Copy)]
 struct Begun {
     top: usize,
     put: usize,

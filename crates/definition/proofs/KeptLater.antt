@@ -159,16 +159,16 @@ unfolding rule
 silent_rule true number span = refuses refl
 silent_rule false number span = passes
 
-silent_profile : (nodes : ℕ) (ps : List Placed) → Given WithoutMessage (profile_from nodes ps)
+silent_profile : (ps : List Placed) (nodes : ℕ) → Given WithoutMessage (profile_from nodes ps)
 unfolding profile_from
-silent_profile nodes [] = passes
-silent_profile nodes (p ∷ ps) =
-    both (silent_rule _ 53 0) (both (silent_rule _ 54 0) (both (silent_rule _ 55 p.1) (silent_profile _ ps)))
+silent_profile [] nodes = passes
+silent_profile (p ∷ ps) nodes =
+    both (silent_rule _ 53 0) (both (silent_rule _ 54 0) (both (silent_rule _ 55 p.1) (silent_profile ps _)))
 
 pub profile_bounded : ProfileBounded
 unfolding profile_answer profile verdict
 profile_bounded input =
-    bounded_reading nothing no_buffers 0 (read (named_root 81) input) _ λ c h. go (profile c) (silent_profile 0 _)
+    bounded_reading nothing no_buffers 0 (read (named_root 81) input) _ λ c h. go (profile c) (silent_profile _ 0)
   where
     go : (v : Verdict) → Given WithoutMessage v → Bounded no_buffers 0 (answer nothing no_buffers (verdict v))
     go none g = bounded_done nothing no_buffers 0 tt 0 (omega arith) (omega arith)

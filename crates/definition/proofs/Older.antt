@@ -12,7 +12,7 @@ use lib.Dec.{T, leb, leb→le}
 use lib.ListN.{length}
 use Rattle.format.specs.Entry.{Text, Entry, encode, text_of}
 use Rattle.format.specs.Macro.{holds}
-use Rattle.format.specs.Tape.{Reading, read_tape, read_tree, accept, read, Bytes}
+use Rattle.format.specs.Tape.{Reading, read_tape, read_tree, read, Bytes}
 use Rattle.format.specs.Older.{older, fits_older, Kind, TreeOf, root_of, kind_of, first_code, takes_texts, old_head, accept_old, printable}
 use Rattle.format.proofs.Accepted.{OnTape, accepted_on_tape}
 use Rattle.format.proofs.Encodes.{fitting, length_encode}

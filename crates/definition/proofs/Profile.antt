@@ -13,7 +13,7 @@ use borrow.Author.Tests.{le-leb}
 use lib.Dec.{T, ltb, leb, lt→ltb, le→leb, leb→le, nleb→lt, not_T}
 use lib.IntN.{ℤ, pos, negsuc, ◌*ℤ◌}
 use lib.ListN.{length}
-use Rattle.format.specs.Entry.{Entry, entry, encode, text_of}
+use Rattle.format.specs.Entry.{Entry, entry, text_of}
 use Rattle.format.specs.Ast.{TimeUnit, Condition, Term, AggExpr, Call, CallArg, CallArgs, NamedArgs, Terms, Tree, MacroDef}
 use Rattle.format.specs.Flat.{flat_texts, flat_unit, flat_interval, flat_binder, flat_binders, flat_condition, flat_term, flat_agg, flat_call, flat_arg, flat_args, flat_fields, flat_terms, flat_tree}
 use Rattle.format.specs.Limits.{is_node, node_weight, call_weight, weigh, deep_condition, deep_tree, fits_sizes, fits_depths, fits_all, too_large_tree}
@@ -245,7 +245,7 @@ passes_exactly c = (there, back)
 
     back : FitsBattery c → profile_from 0 (place_condition c) ≡ none
     back k =
-        let whole : Kept 0 (flat_condition c) = record { aggregates = k.no_aggregate; count = omega (arith, k.few_nodes); intervals = k.short_intervals } in
+        let whole : Kept 0 (flat_condition c) = record { aggregates = k.no_aggregate_lem; count = omega (arith, k.few_nodes); intervals = k.short_intervals_lem } in
         from_kept 0 (place_condition c) (subst (Kept 0) (sym (of_condition c)) whole)
 
 -- ------------------------------------------------------------------ a plain condition is returned unchanged

@@ -19,7 +19,7 @@ use Rattle.format.proofs.Utf8.{all_whole, whole_all}
 use Rattle.definition.specs.Outcome.{Refusal, Outcome}
 use Rattle.definition.specs.Check.{Verdict, names_of, check_def}
 use Rattle.definition.specs.Registry.{build}
-use Rattle.definition.specs.Answers.{Buffers, padded, answer, number_alone, reading, long_buffers, tree_answer, expand_tapes, expand_answer, substitute_tapes, substitute_answer, message_alone, verdict, message_answer, check_answer, registry_answer}
+use Rattle.definition.specs.Answers.{Buffers, padded, answer, number_alone, long_buffers, tree_answer, expand_tapes, expand_answer, substitute_tapes, substitute_answer, message_alone, verdict, message_answer, check_answer, registry_answer}
 use Rattle.definition.specs.Whole.{WholeOutcome, whole_tree, whole_message, WholeVerdict, whole_pass, whole_refusal, CheckDefWhole, BuildWhole, SubstituteWhole, ExpandWhole, WholeAnswer, WholeMessage, CheckWhole, RegistryWhole, SubstituteTapesWhole, ExpandTapesWhole}
 use Rattle.definition.proofs.Good.{good_done, good_refused}
 use Rattle.definition.proofs.Lookup.{each_def}

@@ -5,7 +5,7 @@ use Prim.Native.Nat.{ℕ, ◌+◌, ◌*◌}
 use native.Mathlib.Omega.{arith}
 use mathlib.Core.Path.{◌≡◌, refl, ap, subst}
 use mathlib.Core.List.{List, [], ◌∷◌}
-use mathlib.Core.Bool.{Bool, true, false, not}
+use mathlib.Core.Bool.{Bool, true, false}
 use lib.Dec.{T, eqb}
 use Rattle.format.specs.Entry.{Entry, entry, encode}
 use Rattle.format.specs.Ast.{Tree, MacroDef}
@@ -14,7 +14,7 @@ use Rattle.format.specs.Limits.{is_node, weigh}
 use Rattle.format.specs.Macro.{holds, tally}
 use Rattle.format.specs.Replace.{replace_def, replace_defs}
 use Rattle.format.specs.DeMorgan.{de_morgan}
-use Rattle.format.specs.Tape.{Reading, Root, condition_root, call_root, definition_root, registry_root, accept, read, rewritten}
+use Rattle.format.specs.Tape.{Reading, Root, condition_root, call_root, definition_root, registry_root, accept, read}
 use Rattle.format.specs.Rewritten.{weighted, map_reading}
 use Rattle.format.proofs.All.{All, all_nil, all_cons, all_tail, all_map}
 use Rattle.format.proofs.Becomes.{NoOr as NoOrEntry, Becomes, nothing, kept, joined, parted, tally_append, becomes_condition, becomes_call, becomes_definition, become_no_or}

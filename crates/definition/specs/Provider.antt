@@ -1,7 +1,7 @@
 -- Provider tapes (document 02, point 11): their acceptance, and lone arguments turned into terms and back. What is promised of them
 -- stands in ProviderPromises.
 -- Assumes nothing.
-use Rattle.std.specs.Prelude.{ℕ, List, [], Bool, true, false, leb}
+use Rattle.std.specs.Prelude.{ℕ, List, [], true, false, leb}
 use Rattle.std.proofs.Math.Option.{Option, none, some}
 use Rattle.format.specs.Entry.{Entry, encode}
 use Rattle.format.specs.Ast.{Term, Terms}

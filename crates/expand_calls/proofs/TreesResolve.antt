@@ -118,7 +118,7 @@ module _ {R : Reads} {reg : Registry} (S : Settled R reg) where
   pub resolves : (head : Heading) {name : Text} → name_at R.condition R.layout head.name ≡ name
       → Resolved R (resolve_in R head) (get reg.defs name)
   unfolding resolve_in
-  resolves head {name} e = rw e (found_resolves R S.indexed S.ended S.few_params S.shallow name)
+  resolves head {name} e = rw e (found_resolves R S.indexed S.ended S.few_params_lem S.shallow name)
 
   value_kind : {m : MacroRead} {o : Option MacroDef} → Resolved R m o
       → on_macro false (λ def. is_value R def.kind) m ≡ elim o [ some d ↦ is_value_body d.body | none ↦ false ]

@@ -1,4 +1,6 @@
 // A call in a condition (document 01, module 7): which macro it names, and what it becomes once its arguments are expanded.
+#![tactic(auto)]
+
 ghost use Rattle.std.specs.Prelude.{◌≡◌};
 ghost use Rattle.walk_state.specs.Writing as one;
 ghost use Rattle.expand_calls.specs.Output.{reads, progress};
@@ -17,7 +19,7 @@ use walk_state::writing::{State, Walk};
 pub mod output;
 
 // The macro that a call may use in its place, or the refusal of the call.
-#[derive(Drop)]
+#[derive(Clone, Copy)]
 pub enum Callee {
     Macro(Macro),
     Refused(Refused),

@@ -13,7 +13,7 @@ use walk_state::reading::{Checked, passed};
 use walk_state::writing::{State, Walk, without_message};
 
 // The layouts of the registry's tape and of the condition's, the number of definitions, the budget's limit, and the file number.
-#[derive(Drop)]
+#[derive(Clone, Copy)]
 pub struct Context {
     pub registry: Layout,
     pub count: usize,

@@ -1,5 +1,7 @@
 // The calls of a condition that expansion enters, counted for the definitions that they name. One loop over the entries: a call is a
 // 54 that stands in no field and in no array of an operand. Those are passed over; of all else nothing but the code and the length of its text is looked at.
+#![tactic(auto)]
+
 ghost use Rattle.std.specs.Prelude.{◌≡◌, ◌+◌, ◌-◌, ◌*◌, ◌≤◌, ◌<◌, min, length, drop, get_or, set};
 ghost use Rattle.format.specs.Tape.{is_text, text_width};
 ghost use Rattle.tape.specs.Flat.{sum_in, weight_of};
@@ -17,7 +19,7 @@ use tape::ors::count_in;
 use tape::scan::{Skipped, skip};
 
 // What is passed over: so many entries, whatever they are, and then so many items, which are names and terms.
-#[derive(Drop)]
+#[derive(Clone, Copy)]
 pub struct Passing {
     pub over: usize,
     pub items: usize,

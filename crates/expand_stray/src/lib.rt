@@ -1,5 +1,7 @@
 // Stray sigils: the parts of a condition that expansion looks at and leaves as they are. Each check takes the answer so far, and hands
 // it on once it is a refusal.
+#![tactic(auto)]
+
 ghost use Rattle.std.specs.Prelude.{◌≡◌};
 ghost use Rattle.walk_state.specs.Reading.{items_in};
 ghost use Rattle.expand_stray.specs.Concrete.{concrete_within_in, concrete_slot_in, concrete_binder_in, concrete_binders_in, concrete_term_in, concrete_fields_in};
@@ -79,7 +81,7 @@ pub fn check_concrete_binders(s: &[u8], l: Layout, span: u64, w: Checked) -> Che
 }
 
 // Only arrays are entered: aggregates and arithmetic are passed whole.
-#[cycle(check_concrete_term_check_concrete_terms)]
+#[cycle(terms)]
 fn check_concrete_term(nesting: usize, s: &[u8], l: Layout, span: u64, w: Checked) -> Checked
     ensures { result ≡ concrete_term_in s.now l nesting span w }
 {
@@ -104,7 +106,7 @@ fn check_concrete_term(nesting: usize, s: &[u8], l: Layout, span: u64, w: Checke
 }
 
 // The items of an array.
-#[cycle(check_concrete_term_check_concrete_terms)]
+#[cycle(terms)]
 fn check_concrete_terms(
     nesting: usize,
     s: &[u8],

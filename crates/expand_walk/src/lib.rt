@@ -2,6 +2,8 @@
 // state so far and hands it on once it is a refusal. `n` is the nesting that is left. The functions stand in the Rust's order and have
 // the Rust's names without their `temporal_`, each with its helpers behind it: the name of the whole cycle, which is all their names,
 // has to fit a file's name.
+#![tactic(auto)]
+
 ghost use Rattle.std.specs.Prelude.{◌≡◌};
 ghost use Rattle.expand_calls.specs.Output.{reads, progress};
 ghost use Rattle.expand_walk.specs.Walkers.{walkers, stray_in, condition_node_in, both_in, inner_in, since_in, refine_in, operand_node_in, stray_term_in, sides_in, to_condition_in, to_value_in, called_in, items_in, arg_in, condition_arg_in};
@@ -28,7 +30,7 @@ use walk_state::reading::{Checked, passed, stop};
 use walk_state::writing::{State, Walk, without_message};
 
 // The Rust's `expand_temporal_condition`.
-#[cycle(arg_both_called_cond_arg_condition_expand_agg_expand_call_args_expand_call_to_condition_expand_call_to_value_expand_condition_expand_operand_inner_operand_refine_sides_since_value_arg)]
+#[cycle(walk)]
 pub fn expand_condition(
     n: usize,
     reg: &[u8],
@@ -54,7 +56,7 @@ pub fn expand_condition(
 }
 
 // The condition whose own entries end at `next`.
-#[cycle(arg_both_called_cond_arg_condition_expand_agg_expand_call_args_expand_call_to_condition_expand_call_to_value_expand_condition_expand_operand_inner_operand_refine_sides_since_value_arg)]
+#[cycle(walk)]
 fn condition(
     n: usize,
     reg: &[u8],
@@ -117,7 +119,7 @@ fn check_stray(n: usize, cond: &[u8], x: Context, node: ConditionNode, next: Pla
     }
 }
 
-#[cycle(arg_both_called_cond_arg_condition_expand_agg_expand_call_args_expand_call_to_condition_expand_call_to_value_expand_condition_expand_operand_inner_operand_refine_sides_since_value_arg)]
+#[cycle(walk)]
 fn both(
     n: usize,
     reg: &[u8],
@@ -137,7 +139,7 @@ fn both(
 }
 
 // The one condition behind what was looked at.
-#[cycle(arg_both_called_cond_arg_condition_expand_agg_expand_call_args_expand_call_to_condition_expand_call_to_value_expand_condition_expand_operand_inner_operand_refine_sides_since_value_arg)]
+#[cycle(walk)]
 fn inner(
     n: usize,
     reg: &[u8],
@@ -156,7 +158,7 @@ fn inner(
 }
 
 // The tape has left, within, right. A refusal of the within comes before one of the left side, with what was charged before both.
-#[cycle(arg_both_called_cond_arg_condition_expand_agg_expand_call_args_expand_call_to_condition_expand_call_to_value_expand_condition_expand_operand_inner_operand_refine_sides_since_value_arg)]
+#[cycle(walk)]
 fn since(
     n: usize,
     reg: &[u8],
@@ -180,7 +182,7 @@ fn since(
 }
 
 // The two sides of a comparison or of arithmetic.
-#[cycle(arg_both_called_cond_arg_condition_expand_agg_expand_call_args_expand_call_to_condition_expand_call_to_value_expand_condition_expand_operand_inner_operand_refine_sides_since_value_arg)]
+#[cycle(walk)]
 fn sides(
     n: usize,
     reg: &[u8],
@@ -200,7 +202,7 @@ fn sides(
 }
 
 // The base, then the fold.
-#[cycle(arg_both_called_cond_arg_condition_expand_agg_expand_call_args_expand_call_to_condition_expand_call_to_value_expand_condition_expand_operand_inner_operand_refine_sides_since_value_arg)]
+#[cycle(walk)]
 fn refine(
     n: usize,
     reg: &[u8],
@@ -226,7 +228,7 @@ fn refine(
 }
 
 // The Rust's `expand_temporal_agg`: the aggregate behind a 30, which stands at the state's place. A call takes the whole term's place.
-#[cycle(arg_both_called_cond_arg_condition_expand_agg_expand_call_args_expand_call_to_condition_expand_call_to_value_expand_condition_expand_operand_inner_operand_refine_sides_since_value_arg)]
+#[cycle(walk)]
 fn expand_agg(
     n: usize,
     reg: &[u8],
@@ -263,7 +265,7 @@ fn expand_agg(
 }
 
 // The Rust's `expand_temporal_operand`.
-#[cycle(arg_both_called_cond_arg_condition_expand_agg_expand_call_args_expand_call_to_condition_expand_call_to_value_expand_condition_expand_operand_inner_operand_refine_sides_since_value_arg)]
+#[cycle(walk)]
 fn expand_operand(
     n: usize,
     reg: &[u8],
@@ -289,7 +291,7 @@ fn expand_operand(
 }
 
 // Of a term only aggregates, arithmetic and calls are entered.
-#[cycle(arg_both_called_cond_arg_condition_expand_agg_expand_call_args_expand_call_to_condition_expand_call_to_value_expand_condition_expand_operand_inner_operand_refine_sides_since_value_arg)]
+#[cycle(walk)]
 fn operand(
     n: usize,
     reg: &[u8],
@@ -331,7 +333,7 @@ fn check_stray_term(cond: &[u8], x: Context, node: TermNode, p: Place, next: Pla
 }
 
 // The Rust's `expand_temporal_call_to_condition`: the outcome takes the place of the 11, with spans of its own.
-#[cycle(arg_both_called_cond_arg_condition_expand_agg_expand_call_args_expand_call_to_condition_expand_call_to_value_expand_condition_expand_operand_inner_operand_refine_sides_since_value_arg)]
+#[cycle(walk)]
 fn expand_call_to_condition(
     n: usize,
     reg: &[u8],
@@ -355,7 +357,7 @@ fn expand_call_to_condition(
 }
 
 // A call of a macro of the right kind: 34; the call with its arguments at the next level; what it becomes.
-#[cycle(arg_both_called_cond_arg_condition_expand_agg_expand_call_args_expand_call_to_condition_expand_call_to_value_expand_condition_expand_operand_inner_operand_refine_sides_since_value_arg)]
+#[cycle(walk)]
 fn called(
     n: usize,
     reg: &[u8],
@@ -386,7 +388,7 @@ fn called(
 }
 
 // The Rust's `expand_temporal_call_args`.
-#[cycle(arg_both_called_cond_arg_condition_expand_agg_expand_call_args_expand_call_to_condition_expand_call_to_value_expand_condition_expand_operand_inner_operand_refine_sides_since_value_arg)]
+#[cycle(walk)]
 fn expand_call_args(
     n: usize,
     reg: &[u8],
@@ -412,7 +414,7 @@ fn expand_call_args(
     a
 }
 
-#[cycle(arg_both_called_cond_arg_condition_expand_agg_expand_call_args_expand_call_to_condition_expand_call_to_value_expand_condition_expand_operand_inner_operand_refine_sides_since_value_arg)]
+#[cycle(walk)]
 fn arg(
     n: usize,
     reg: &[u8],
@@ -445,7 +447,7 @@ fn arg(
 }
 
 // The argument that is a condition: a bare call of a value macro becomes a term, and any other stays a condition.
-#[cycle(arg_both_called_cond_arg_condition_expand_agg_expand_call_args_expand_call_to_condition_expand_call_to_value_expand_condition_expand_operand_inner_operand_refine_sides_since_value_arg)]
+#[cycle(walk)]
 fn cond_arg(
     n: usize,
     reg: &[u8],
@@ -466,7 +468,7 @@ fn cond_arg(
 }
 
 // The bare call at a place, as a term.
-#[cycle(arg_both_called_cond_arg_condition_expand_agg_expand_call_args_expand_call_to_condition_expand_call_to_value_expand_condition_expand_operand_inner_operand_refine_sides_since_value_arg)]
+#[cycle(walk)]
 fn value_arg(
     n: usize,
     reg: &[u8],
@@ -496,7 +498,7 @@ fn value_arg(
 }
 
 // The Rust's `expand_temporal_call_to_value`.
-#[cycle(arg_both_called_cond_arg_condition_expand_agg_expand_call_args_expand_call_to_condition_expand_call_to_value_expand_condition_expand_operand_inner_operand_refine_sides_since_value_arg)]
+#[cycle(walk)]
 fn expand_call_to_value(
     n: usize,
     reg: &[u8],

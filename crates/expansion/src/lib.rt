@@ -1,4 +1,6 @@
 // The expansion of macros/mod.rs (document 01, module 7): a condition, and the registry of the macros that it calls.
+#![tactic(auto)]
+
 ghost use Rattle.std.specs.Prelude.{◌≡◌, ◌/◌, length, replicate};
 ghost use Rattle.answer.specs.Matches.{answer_with, buffers};
 ghost use Rattle.de_morgan.specs.Rewritten.{rewritten_in, rewritten_layout};
@@ -24,7 +26,7 @@ use tape::layout::{Layout, Place};
 use walk_state::writing::{State, Walk};
 
 // What an expansion returns, and the registry state that it hands back.
-#[derive(Drop)]
+#[derive(Clone, Copy)]
 pub struct Expanded {
     pub answer: Answer,
     pub counts: Counts,

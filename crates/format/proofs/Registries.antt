@@ -8,7 +8,7 @@ use mathlib.Core.List.{List, [], ◌∷◌, ◌++◌}
 use mathlib.Core.Bool.{Bool, false}
 use lib.Dec.{T, leb, leb→le, le→leb}
 use lib.ListN.{length, length-append}
-use Rattle.format.specs.Entry.{Text, Entry, encode, text_of}
+use Rattle.format.specs.Entry.{Entry, encode, text_of}
 use Rattle.format.specs.Ast.{MacroBody, MacroDef}
 use Rattle.format.specs.Flat.{flat_params, flat_body, flat_def, flat_defs, flat_registry}
 use Rattle.format.specs.Utf8.{follow, between, well_formed, well_texts}

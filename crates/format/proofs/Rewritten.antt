@@ -9,7 +9,7 @@ use mathlib.Core.Option.{Option, none, some}
 use lib.Dec.{T, leb, eqb, leb→le, le→leb}
 use lib.ListN.{length}
 use Rattle.format.specs.Entry.{Entry, encode, text_of}
-use Rattle.format.specs.Ast.{Condition, Tree}
+use Rattle.format.specs.Ast.{Condition}
 use Rattle.format.specs.Flat.{flat_condition}
 use Rattle.format.specs.Limits.{node_weight, call_weight, fits_sizes, fits_depths}
 use Rattle.format.specs.Macro.{holds, tally}
@@ -22,7 +22,6 @@ use Rattle.format.proofs.All.{All, all_nil, all_cons}
 use Rattle.format.proofs.Tests.{and_left, and_right, and_both, or_none, or_neither, is_true}
 use Rattle.format.proofs.Spells.{flat_stack, s_at_root, build_spells}
 use Rattle.format.proofs.Accepted.{OnTape, accepted_on_tape, Accepts, was_accepted, Entries, reads_tape}
-use Rattle.format.proofs.Encodes.{fitting}
 use Rattle.format.proofs.Exact.{Lawful, within_limits, on_tape_accepted, lawful_condition, lawful_named}
 use Rattle.format.proofs.Utf8.{all_whole, whole_all}
 use Rattle.format.proofs.Counts.{few_each}

@@ -140,7 +140,7 @@ pub fn has_pairs(sort: u64) -> bool
 
 // What an entry does to a count: it may not stand there, or it brings so many subtrees and bytes of text, and the items of the next list are
 // two subtrees each or not.
-#[derive(Drop)]
+#[derive(Clone, Copy)]
 pub enum Counted {
     Refused,
     On(u64, usize, bool),

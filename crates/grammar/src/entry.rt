@@ -9,7 +9,7 @@ use crate::stack::{drop_first, push};
 
 // An entry's code and value and the length of its text, with what a table says of it at a place of a sort: the words of the sort and of
 // the code, and that of what follows.
-#[derive(Drop)]
+#[derive(Clone, Copy)]
 pub struct Head {
     pub code: u8,
     pub value: u64,

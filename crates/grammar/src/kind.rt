@@ -4,7 +4,7 @@ ghost use Rattle.format.specs.Limits.{is_node};
 ghost use Rattle.format.specs.Tape.{is_text, text_width};
 ghost use Rattle.grammar.specs.Kind.{kind_of};
 
-#[derive(Drop)]
+#[derive(Clone, Copy)]
 enum ValueKind {
     Text,
     Span,

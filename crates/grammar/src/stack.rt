@@ -9,7 +9,7 @@ use crate::codes::is_each;
 
 // The sorts of `word`, the first in its lowest two octal digits, and the last of them `more` times more; all below `nesting` nodes and
 // `calls` calls.
-#[derive(Drop)]
+#[derive(Clone, Copy)]
 pub struct Cell {
     pub word: u64,
     pub more: u64,

@@ -1,53 +1,80 @@
 // The house sheet of standard input: a registry's 4-byte length, the registry, and the sheet. Prints for each condition its place from 1,
 // number, start, end and charged, as `cases` does; a refused registry or sheet is one line with place 0.
+#![tactic(auto)]
+
+ghost use Rattle.std.specs.Prelude.{◌≤◌, IfOk, length};
+
 use answer::Answer;
 use buffer::read_size;
-use libc::{STDIN_FILENO, STDOUT_FILENO};
 use sheet::Progress;
+use std::io;
+use std::io::Read;
 
 // Room for the longest input, 4 + 12,296 + 65,536 bytes, and one more: a sheet that fills it is too long.
 fn room() -> [u8; 77837] {
     [0; 77837]
 }
 
-fn main() {
+fn main(rt: HostRuntime) -> io::Result<()> {
     let mut input = room();
-    let n = io::read_full(STDIN_FILENO, &mut input);
-    run(&input[..n]);
+    let n = read_full(&mut rt.stdin(), &mut input)?;
+    run(&rt, &input[..n])
+}
+
+// Reads until the buffer is full or the input ends, and says how many bytes came.
+fn read_full(reader: &mut impl Read, buffer: &mut [u8]) -> io::Result<usize>
+    ensures { IfOk result (λ n. n ≤ length buffer.new) }
+{
+    let mut done = 0;
+    while done < buffer.len() {
+        let n = reader.read(&mut buffer[done..])?;
+        if n == 0 {
+            break;
+        }
+        done += n;
+    }
+    Ok(done)
 }
 
 // An input that ends before its registry does, or a registry longer than any tape, is 2.
-fn run(input: &[u8]) {
+fn run(rt: &impl Print, input: &[u8]) -> io::Result<()> {
     if input.len() < 4 {
-        return print_line(0, 2, 0, 0, 0);
+        return print_line(rt, 0, 2, 0, 0, 0);
     }
     let length = read_size(input, 0) as usize;
     if 12296 < length {
-        return print_line(0, 2, 0, 0, 0);
+        return print_line(rt, 0, 2, 0, 0, 0);
     }
     let end = 4 + length;
     if input.len() < end {
-        return print_line(0, 2, 0, 0, 0);
+        return print_line(rt, 0, 2, 0, 0, 0);
     }
-    expand_sheet(&input[4..end], &input[end..]);
+    expand_sheet(rt, &input[4..end], &input[end..])
 }
 
-fn expand_sheet<'a>(registry: &'a [u8], sheet: &'a [u8]) {
+fn expand_sheet<'a>(rt: &impl Print, registry: &'a [u8], sheet: &'a [u8]) -> io::Result<()> {
     let mut message = [0u8; 2048];
     let opened = sheet::open(registry, sheet, 1000, 0, &mut message);
     let answer = opened.answer;
     if answer.number != 0 {
-        return print_answer(0, answer);
+        return print_answer(rt, 0, answer);
     }
     let p = opened.progress;
-    lend_buffers(registry, sheet, p, &mut message);
+    lend_buffers(rt, registry, sheet, p, &mut message)
 }
 
-fn lend_buffers<'a>(registry: &'a [u8], sheet: &'a [u8], p: Progress, message: &mut [u8]) {
+fn lend_buffers<'a>(
+    rt: &impl Print,
+    registry: &'a [u8],
+    sheet: &'a [u8],
+    p: Progress,
+    message: &mut [u8],
+) -> io::Result<()> {
     let mut result = [0u8; 12296];
     let mut work = [0u8; 65536];
     let mut counts = [0u32; 255];
     print_steps(
+        rt,
         registry,
         sheet,
         p,
@@ -55,10 +82,11 @@ fn lend_buffers<'a>(registry: &'a [u8], sheet: &'a [u8], p: Progress, message: &
         &mut work,
         message,
         &mut counts,
-    );
+    )
 }
 
 fn print_steps<'a>(
+    rt: &impl Print,
     registry: &'a [u8],
     sheet: &'a [u8],
     start: Progress,
@@ -66,30 +94,44 @@ fn print_steps<'a>(
     work: &mut [u8],
     message: &mut [u8],
     counts: &mut [u32],
-) {
+) -> io::Result<()> {
     let count = start.left;
     let mut p = start;
     while 0 < p.left {
         let step = sheet::next(registry, sheet, p, res, work, message, counts);
         p = step.progress;
-        print_answer(count - p.left, step.answer);
+        print_answer(rt, count - p.left, step.answer)?;
     }
+    Ok(())
 }
 
-fn print_answer(place: u64, answer: Answer) {
+fn print_answer(rt: &impl Print, place: u64, answer: Answer) -> io::Result<()> {
     let span = answer.span;
-    print_line(place, answer.number, span.start, span.end, answer.charged);
+    print_line(
+        rt,
+        place,
+        answer.number,
+        span.start,
+        span.end,
+        answer.charged,
+    )
 }
 
-fn print_line(place: u64, number: u32, start: u32, end: u32, charged: u32) {
-    print(place, b" ");
-    print(number as u64, b" ");
-    print(start as u64, b" ");
-    print(end as u64, b" ");
-    print(charged as u64, b"\n");
+fn print_line(
+    rt: &impl Print,
+    place: u64,
+    number: u32,
+    start: u32,
+    end: u32,
+    charged: u32,
+) -> io::Result<()> {
+    print(rt, place, " ")?;
+    print(rt, number as u64, " ")?;
+    print(rt, start as u64, " ")?;
+    print(rt, end as u64, " ")?;
+    print(rt, charged as u64, "\n")
 }
 
-fn print(n: u64, behind: &[u8]) {
-    io::print_decimal(STDOUT_FILENO, n);
-    io::write_all(STDOUT_FILENO, behind);
+fn print(rt: &impl Print, n: u64, behind: &str) -> io::Result<()> {
+    print!(rt; "{n}{behind}")
 }

@@ -1,5 +1,7 @@
 // Judging the other supplier's result (document 02, point 3): an expansion of our own, and whether the supplied tape is its result but
 // for names that it generated.
+#![tactic(auto)]
+
 ghost use Rattle.std.specs.Prelude.{◌≡◌, true, length};
 ghost use Rattle.answer.specs.Matches.{answer_with, buffers};
 ghost use Rattle.answer.specs.Tapes.{accept_two};

@@ -2,6 +2,8 @@
 // makes with the one in its place, all else equal. A protected name, one of the condition or of a definition, is equal; any other is
 // sent to none that is protected, and its pair agrees with every earlier one in both directions. Earlier pairs are found on the tapes
 // again: 1,024 entries at the most, so half a million pairs.
+#![tactic(auto)]
+
 ghost use Rattle.std.specs.Prelude.{◌≡◌, true, ◌&&◌, [], ◌≤◌, ◌<◌, eqb};
 ghost use Rattle.definition.specs.Check.{contains};
 ghost use Rattle.definition.specs.Text.{eq_text};

@@ -13,7 +13,7 @@ use tape::layout::{Layout, Place};
 use tape::scan::{Skipped, skip};
 
 // The places behind two entries that agree.
-#[derive(Drop)]
+#[derive(Clone, Copy)]
 pub enum Alike {
     Both(Place, Place),
     Differ,
@@ -21,7 +21,7 @@ pub enum Alike {
 
 // What a definition of the second registry is to the first: a new one, or one that agrees with the first's, each with the place behind
 // it; or one that differs, with its span.
-#[derive(Drop)]
+#[derive(Clone, Copy)]
 pub enum Compared {
     New(Place),
     Known(Place),

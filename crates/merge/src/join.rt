@@ -18,7 +18,7 @@ use tape::scan::{Skipped, skip};
 use walk_state::writing::{State, Walk, without_message};
 
 // What a merge comes to: the joined registry in an area; or a refusal, whose message's names stand on the first tape or on the second.
-#[derive(Drop)]
+#[derive(Clone, Copy)]
 pub enum Merging {
     Written(Writer),
     First(Refused),

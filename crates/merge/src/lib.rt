@@ -1,5 +1,7 @@
 // Two registries joined into one (document 02, point 7): the first one's definitions in order, then those of the second whose names the
 // first lacks. A name that both have is kept once, as the first has it, if the two agree in everything but spans; 51 if they do not.
+#![tactic(auto)]
+
 ghost use Rattle.std.specs.Prelude.{[], ◌≡◌, ◌&&◌, leb, length, replicate};
 ghost use Rattle.definition.specs.Merge.{merge_answer};
 ghost use Rattle.answer.specs.Matches.{answer_with, buffers};

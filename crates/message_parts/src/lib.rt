@@ -1,4 +1,6 @@
 // Pieces of a message that come together, and the list of declared names. A name is given by its place in a tape.
+#![tactic(auto)]
+
 ghost use Rattle.std.specs.Prelude.{[], ◌∷◌};
 ghost use Rattle.nodes.specs.Node.{name_at};
 ghost use Rattle.buffer.specs.Buffer.{message_in};

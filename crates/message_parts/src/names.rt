@@ -32,7 +32,7 @@ fn before(a: &[u8], b: &[u8]) -> bool
 }
 
 // A least name, if there is one.
-#[derive(Drop)]
+#[derive(Clone, Copy)]
 pub enum Least {
     Name(Name),
     Nothing,

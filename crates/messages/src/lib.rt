@@ -1,4 +1,6 @@
 // The messages of document 01's refusals, written from the refusal and the tapes that spell its names.
+#![tactic(auto)]
+
 ghost use Rattle.std.specs.Prelude.{◌≡◌, length};
 ghost use Rattle.buffer.specs.Buffer.{message_in, Written};
 ghost use Rattle.messages.specs.Reason.{number_of, refused_at, message_of};
@@ -23,7 +25,7 @@ use nodes::{Name, Sigil, Span, span_of};
 use tape::layout::{Layout, Place};
 
 // Why an input is refused. A name is one of the definition's tape (a registry's too), or of the call's (a condition's too).
-#[derive(Drop)]
+#[derive(Clone, Copy)]
 pub enum Reason {
     // 1, 2, 3 and 48 say nothing: the number
     WithoutMessage(u32),
@@ -63,7 +65,7 @@ pub enum Reason {
 }
 
 // A refusal: its span, and the reason, which says its number and its message.
-#[derive(Drop)]
+#[derive(Clone, Copy)]
 pub struct Refused {
     pub span: Span,
     pub reason: Reason,

@@ -1,60 +1,68 @@
 // Document 01's further examples: e(1, 2) gives `P{f: 2}`, charged 3; N = 1,024 is accepted, 1,025 is 3. Prints number, start, end and
 // charged for each, and for the first whether the result is the tape of `P{f: 2}` with zeros behind it.
-use libc::STDOUT_FILENO;
+#![tactic(auto)]
+
 use nodes::same_text;
+use std::io;
 use tape::part::part_of;
 
-fn main() {
+fn main(rt: HostRuntime) -> io::Result<()> {
     let mut registry = [0u8; 12296];
     let n = samples::registry(&mut registry);
-    run(part_of(&registry, 0, n));
+    run(&rt, part_of(&registry, 0, n))
 }
 
-fn run(registry: &[u8]) {
-    given_twice(registry);
-    long(registry, 1024);
-    long(registry, 1025);
+fn run(rt: &impl Print, registry: &[u8]) -> io::Result<()> {
+    given_twice(rt, registry)?;
+    long(rt, registry, 1024)?;
+    long(rt, registry, 1025)
 }
 
 // e(1, 2)
-fn given_twice(registry: &[u8]) {
+fn given_twice(rt: &impl Print, registry: &[u8]) -> io::Result<()> {
     let mut condition = [0u8; 12296];
     let n = samples::condition(15, &mut condition);
-    io::write_all(STDOUT_FILENO, b"e(1, 2): ");
-    compare(registry, part_of(&condition, 0, n));
+    print!(rt; "e(1, 2): ")?;
+    compare(rt, registry, part_of(&condition, 0, n))
 }
 
-fn compare<'a>(registry: &'a [u8], condition: &'a [u8]) {
+fn compare<'a>(rt: &impl Print, registry: &'a [u8], condition: &'a [u8]) -> io::Result<()> {
     let mut result = [0u8; 12296];
-    expand(registry, condition, &mut result, b" ");
-    say_whether(&result);
+    expand(rt, registry, condition, &mut result, " ")?;
+    say_whether(rt, &result)
 }
 
-fn say_whether(res: &[u8]) {
+fn say_whether(rt: &impl Print, res: &[u8]) -> io::Result<()> {
     let mut wanted = [0u8; 12296];
     samples::condition(16, &mut wanted);
     if same_text(res, &wanted) {
-        io::write_all(STDOUT_FILENO, b"P{f: 2}\n");
+        println!(rt; "P{{f: 2}}")
     } else {
-        io::write_all(STDOUT_FILENO, b"another result\n");
+        println!(rt; "another result")
     }
 }
 
 // A condition of n entries, which has no macro in it.
-fn long(registry: &[u8], entries: u32) {
+fn long(rt: &impl Print, registry: &[u8], entries: u32) -> io::Result<()> {
     let mut condition = [0u8; 9233];
     let n = samples::long_condition(entries as usize, &mut condition);
-    io::write_all(STDOUT_FILENO, b"N = ");
-    print(entries, b": ");
-    expand_alone(registry, part_of(&condition, 0, n));
+    print!(rt; "N = ")?;
+    print(rt, entries, ": ")?;
+    expand_alone(rt, registry, part_of(&condition, 0, n))
 }
 
-fn expand_alone<'a>(registry: &'a [u8], condition: &'a [u8]) {
+fn expand_alone<'a>(rt: &impl Print, registry: &'a [u8], condition: &'a [u8]) -> io::Result<()> {
     let mut result = [0u8; 12296];
-    expand(registry, condition, &mut result, b"\n");
+    expand(rt, registry, condition, &mut result, "\n")
 }
 
-fn expand<'a>(registry: &'a [u8], condition: &'a [u8], res: &mut [u8], behind: &[u8]) {
+fn expand<'a>(
+    rt: &impl Print,
+    registry: &'a [u8],
+    condition: &'a [u8],
+    res: &mut [u8],
+    behind: &str,
+) -> io::Result<()> {
     let mut work = [0u8; 65536];
     let mut message = [0u8; 2048];
     let answer = expansion::expand_lent(
@@ -67,13 +75,12 @@ fn expand<'a>(registry: &'a [u8], condition: &'a [u8], res: &mut [u8], behind: &
         &mut message,
         &mut [],
     );
-    print(answer.number, b" ");
-    print(answer.span.start, b" ");
-    print(answer.span.end, b" ");
-    print(answer.charged, behind);
+    print(rt, answer.number, " ")?;
+    print(rt, answer.span.start, " ")?;
+    print(rt, answer.span.end, " ")?;
+    print(rt, answer.charged, behind)
 }
 
-fn print(n: u32, behind: &[u8]) {
-    io::print_decimal(STDOUT_FILENO, n as u64);
-    io::write_all(STDOUT_FILENO, behind);
+fn print(rt: &impl Print, n: u32, behind: &str) -> io::Result<()> {
+    print!(rt; "{n}{behind}")
 }

@@ -1,5 +1,7 @@
 // The functions that C links. A slice is two parameters there, its pointer and its length; `answer` is a pointer to five words, or to
 // seven for a preview.
+#![tactic(auto)]
+
 ghost use Rattle.std.specs.Prelude.{[], ◌≡◌, length};
 ghost use Rattle.definition.specs.Answers.{check_answer, registry_answer, substitute_answer, expand_answer};
 ghost use Rattle.definition.specs.Judge.{judge_answer};

@@ -118,7 +118,7 @@ module _ {s : List ℕ} {l : Layout} where
   pub past_texts : {p : Place} (ts : List Text) → Inside s l p (flat_texts ts) → past_texts_at s l p (length ts) ≡ At (past (flat_texts ts) p)
   unfolding past_texts_at past_items flat_texts past
   past_texts [] i = refl
-  past_texts (t ∷ ts) i = rw (past_entry (text_entry 40 t) i) (past_texts ts (inside_next (text_entry 40 t) (flat_texts ts) i))
+  past_texts {p = p} (t ∷ ts) i = rw (past_entry (text_entry 40 t) i) (past_texts {p = past (text_entry 40 t ∷ []) p} ts (inside_next (text_entry 40 t) (flat_texts ts) i))
 
   -- a list's count, and its items
   pub parts_list : {p : Place} (n : ℕ) (es : List Entry) → Inside s l p (entry 41 n ∷ es)
@@ -505,9 +505,9 @@ module _ {s : List ℕ} {l : Layout} where
       → past_params_at s l p (length qs) ≡ At (past (flat_params qs) p)
   unfolding past_params_at past_items open_flat past
   past_params [] i = refl
-  past_params (q ∷ qs) i =
+  past_params {p = p} (q ∷ qs) i =
       let h = inside_next (entry 42 q.span) (text_entry 40 q.name ∷ flat_params qs) i in
-      rw (is_expected i, is_expected h) (past_params qs (inside_next (text_entry 40 q.name) (flat_params qs) h))
+      rw (is_expected i, is_expected h) (past_params {p = past (text_entry 40 q.name ∷ []) (past (entry 42 q.span ∷ []) p)} qs (inside_next (text_entry 40 q.name) (flat_params qs) h))
 
   pub parts_body : {p : Place} (b : MacroBody) → Inside s l p (flat_body b) → BodyParts s l p b
   unfolding open_flat past body_at

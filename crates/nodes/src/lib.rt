@@ -2,6 +2,8 @@
 // behind the node's own entries: behind the whole of a term that has no terms or conditions in it, and else where its first part
 // stands. Where nothing fits, which no accepted tape shows, the refusal is 2. A match on the code has a row a code, as document 01's
 // table has.
+#![tactic(auto)]
+
 ghost use Rattle.std.specs.Prelude.{◌≡◌, ◌+◌, ◌≤◌, ◌<◌};
 ghost use Rattle.definition.specs.Text.{eq_text};
 ghost use Rattle.tape.specs.Layouts.{onward};
@@ -11,46 +13,46 @@ use grammar::kind::text_width;
 use tape::layout::{Layout, Place, code_at, value_at};
 use tape::scan::Skipped;
 
-#[derive(Drop)]
+#[derive(Clone, Copy)]
 pub struct Span {
     pub start: u32,
     pub end: u32,
 }
 
-#[derive(Drop)]
+#[derive(Clone, Copy)]
 pub struct Refusal {
     pub number: u32,
     pub span: Span,
 }
 
 // Where a name stands in a tape's text.
-#[derive(Drop)]
+#[derive(Clone, Copy)]
 pub struct Name {
     pub text: usize,
     pub size: usize,
 }
 
 // An entry's code and value with the next place.
-#[derive(Drop)]
+#[derive(Clone, Copy)]
 pub enum EntryRead {
     Entry(u8, u64, Place),
     End,
 }
 
 // The value of an entry with the code that was asked for.
-#[derive(Drop)]
+#[derive(Clone, Copy)]
 pub enum ValueRead {
     Value(u64, Place),
     Nothing,
 }
 
-#[derive(Drop)]
+#[derive(Clone, Copy)]
 pub enum Sigil {
     Param,
     Binder,
 }
 
-#[derive(Drop)]
+#[derive(Clone, Copy)]
 pub enum ConditionNode {
     And(u64),
     Or(u64),
@@ -71,13 +73,13 @@ pub enum ConditionNode {
     Refine(u64, u64),
 }
 
-#[derive(Drop)]
+#[derive(Clone, Copy)]
 pub enum ConditionRead {
     Node(ConditionNode, Place),
     Refused(Refusal),
 }
 
-#[derive(Drop)]
+#[derive(Clone, Copy)]
 pub enum TermNode {
     // a literal, a field's path or a wildcard: no name of a variable and no term in it
     Plain,
@@ -89,92 +91,92 @@ pub enum TermNode {
     BinderRef(Name),
 }
 
-#[derive(Drop)]
+#[derive(Clone, Copy)]
 pub enum TermRead {
     Node(TermNode, Place),
     Refused(Refusal),
 }
 
-#[derive(Drop)]
+#[derive(Clone, Copy)]
 pub enum AggNode {
     Sum(u64),
     Count(u64),
     Call(u64),
 }
 
-#[derive(Drop)]
+#[derive(Clone, Copy)]
 pub enum AggRead {
     Node(AggNode, Place),
     Refused(Refusal),
 }
 
-#[derive(Drop)]
+#[derive(Clone, Copy)]
 pub enum SlotNode {
     Name(Name),
     ParamRef(Name),
     BinderRef(Name),
 }
 
-#[derive(Drop)]
+#[derive(Clone, Copy)]
 pub enum SlotRead {
     Node(SlotNode, Place),
     Refused(Refusal),
 }
 
-#[derive(Drop)]
+#[derive(Clone, Copy)]
 pub enum WithinNode {
     Concrete,
     ParamRef(Name),
 }
 
-#[derive(Drop)]
+#[derive(Clone, Copy)]
 pub enum WithinRead {
     Node(WithinNode, Place),
     Refused(Refusal),
 }
 
 // The head of a call or of a definition: its span, its name, and how many arguments or parameters follow.
-#[derive(Drop)]
+#[derive(Clone, Copy)]
 pub struct Heading {
     pub span: u64,
     pub name: Name,
     pub count: u64,
 }
 
-#[derive(Drop)]
+#[derive(Clone, Copy)]
 pub enum HeadingRead {
     Node(Heading, Place),
     Refused(Refusal),
 }
 
-#[derive(Drop)]
+#[derive(Clone, Copy)]
 pub enum ArgNode {
     Condition,
     Term,
     Within,
 }
 
-#[derive(Drop)]
+#[derive(Clone, Copy)]
 pub enum ArgRead {
     Node(ArgNode, Place),
     Refused(Refusal),
 }
 
 // A parameter's name, and the place behind the parameter.
-#[derive(Drop)]
+#[derive(Clone, Copy)]
 pub enum ParamRead {
     Param(Name, Place),
     Nothing,
 }
 
-#[derive(Drop)]
+#[derive(Clone, Copy)]
 pub enum BodyNode {
     Cedar,
     Condition,
     Value,
 }
 
-#[derive(Drop)]
+#[derive(Clone, Copy)]
 pub enum BodyRead {
     Node(BodyNode, Place),
     Refused(Refusal),

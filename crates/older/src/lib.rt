@@ -1,4 +1,6 @@
 // The older tape as an operation (document 02, point 8): a tape of any root of document 01, or of a lone term, for heads that know no weeks.
+#![tactic(auto)]
+
 ghost use Rattle.std.specs.Prelude.{[], ◌≡◌, length, replicate};
 ghost use Rattle.format.specs.Older.{kind_of, first_code};
 ghost use Rattle.definition.specs.Older.{older_answer};

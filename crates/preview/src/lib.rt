@@ -1,5 +1,7 @@
 // The preview (document 02, point 5): what an expansion of the same tapes would return, and how large its result would be. It has no
 // result buffer and takes no counts: the expansion is lent a buffer of its own, and no counts to raise.
+#![tactic(auto)]
+
 ghost use Rattle.std.specs.Prelude.{◌≡◌, length};
 ghost use Rattle.definition.specs.Answers.{expand_answer};
 ghost use Rattle.answer.specs.Matches.{buffers};
@@ -11,7 +13,7 @@ use buffer::read_size;
 use expansion::expand_lent;
 
 // The expansion's answer, and the result's entries and bytes of text, both 0 on a refusal.
-#[derive(Drop)]
+#[derive(Clone, Copy)]
 pub struct Previewed {
     pub answer: Answer,
     pub entries: u32,

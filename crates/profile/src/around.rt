@@ -6,7 +6,7 @@ ghost use Rattle.format.specs.Limits.{is_node, weigh};
 ghost use Rattle.profile.specs.Spans.{items_of, is_condition, ends_item, spans_after, nearest, spans_in, Moved};
 
 // An entry's code and value, and how many arguments a call has whose 11 it is.
-#[derive(Drop)]
+#[derive(Clone, Copy)]
 pub struct Head {
     pub code: u8,
     pub value: u64,

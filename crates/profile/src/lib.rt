@@ -1,5 +1,7 @@
 // The rules for the battery head as an operation (document 02, point 10): an expanded condition holds no aggregate, at most 16 nodes, and
 // only intervals from 0 to one day. The entries are looked at in their order, once, and the first broken rule is answered.
+#![tactic(auto)]
+
 ghost use Rattle.std.specs.Prelude.{[], ◌≡◌, ◌≤◌, ◌<◌, length, drop, replicate};
 ghost use Rattle.std.proofs.Math.Option.{some};
 ghost use Rattle.definition.specs.Outcome.{refusal};

@@ -1,4 +1,6 @@
 // Provider tapes (document 02, point 11): their acceptance; a lone argument turned into a term, and such a term turned back.
+#![tactic(auto)]
+
 ghost use Rattle.std.specs.Prelude.{[], map, ◌≡◌, length};
 ghost use Rattle.std.proofs.lemmas.List.Edits.{sets};
 ghost use Rattle.definition.specs.Provider.{provider_answer, argument_to_term_answer, term_to_argument_answer};

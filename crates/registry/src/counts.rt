@@ -3,7 +3,7 @@ ghost use Rattle.std.specs.Prelude.{◌≡◌};
 ghost use Rattle.definition.specs.Counts.{fresh_counts};
 
 // A registry has 255 definitions at the most; what stands behind the last one's count is left as it is.
-#[derive(Drop)]
+#[derive(Clone, Copy)]
 pub struct Counts {
     pub of: [u32; 255],
 }

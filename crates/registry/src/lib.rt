@@ -1,5 +1,7 @@
 // `Registry::build` of macros/mod.rs: a reserved name is 10, a name that was defined before is 11, definition by definition, 10 first.
 // The places of the definitions are found once, and a name is looked for among them: no body is scanned again.
+#![tactic(auto)]
+
 ghost use Rattle.std.specs.Prelude.{◌≡◌, [], ◌∷◌, ◌+◌, ◌*◌, ◌/◌, ◌≤◌, ◌<◌, length, take, drop};
 ghost use Rattle.std.proofs.lemmas.List.Edits.{sets};
 ghost use Rattle.format.specs.Tape.{is_text, text_width};
@@ -25,14 +27,14 @@ use tape::layout::{Layout, Place, code_at, holds, value_at};
 pub mod counts;
 
 // What the operation returns: its answer, and the state of a registry just built.
-#[derive(Drop)]
+#[derive(Clone, Copy)]
 pub struct Registered {
     pub answer: Answer,
     pub counts: Counts,
 }
 
 // A definition that was found: its head, where its parameters stand, and the entry behind its body.
-#[derive(Drop)]
+#[derive(Clone, Copy)]
 pub enum Found {
     Definition(Heading, Place, usize),
     Nothing,

@@ -1,5 +1,7 @@
 // The Rust's `Registry`: it keeps its definitions by a reference to the lent tape. The borrow checker covers no function over
 // such a struct, so each is proved by a walk of its MIR, and leaves the work to a covered function.
+#![tactic(auto)]
+
 ghost use Rattle.std.specs.Prelude.{◌≡◌, ◌/◌, length};
 ghost use Rattle.definition.specs.Answers.{expand_answer};
 ghost use Rattle.definition.specs.Counts.{expand_counts};
@@ -20,13 +22,13 @@ use tape::layout::{Layout, of_area};
 
 // What building a registry came to: the operation's answer, and how an accepted tape is laid out. The state is none of it: it is the
 // caller's, who has it first from `registry::counts::fresh`, and then from each expansion.
-#[derive(Drop)]
+#[derive(Clone, Copy)]
 pub struct Built {
     pub answer: Answer,
     pub layout: Layout,
 }
 
-#[derive(Drop)]
+#[derive(Clone, Copy)]
 pub struct Registry<'a> {
     pub tape: &'a [u8],
     pub built: Built,

@@ -1,4 +1,6 @@
 // The tapes of document 01's bench cases and of its further examples, written entry by entry from the definitions in its text.
+#![tactic(auto)]
+
 use area::{Writer, empty, finish, put, put_text};
 
 // The tape of the six definitions, and its length.

@@ -1,6 +1,8 @@
 // The house sheet (document 02, point 13): many conditions expanded under one budget and one file number. There are no callbacks, so
 // the caller steps: `open`, and then `next` for each condition, with buffers of the caller's choice. It is written over the contracts of
 // registry and expansion alone.
+#![tactic(auto)]
+
 ghost use Rattle.std.specs.Prelude.{◌≡◌, [], ◌+◌, ◌-◌, ◌≤◌, length, drop};
 ghost use Rattle.answer.specs.Matches.{answer_with, buffers};
 ghost use Rattle.definition.specs.Answers.{tree_answer, number_alone};
@@ -12,7 +14,7 @@ use expansion::expand_lent;
 
 // Where the next condition begins, how many are left, what was charged so far, the budget, and the file number. The numbers are as wide
 // as C hands them in, and `next` has an answer for any five.
-#[derive(Drop)]
+#[derive(Clone, Copy)]
 pub struct Progress {
     pub at: u64,
     pub left: u64,
@@ -22,7 +24,7 @@ pub struct Progress {
 }
 
 // What a step returns.
-#[derive(Drop)]
+#[derive(Clone, Copy)]
 pub struct Step {
     pub answer: Answer,
     pub progress: Progress,

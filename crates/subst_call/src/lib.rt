@@ -1,5 +1,7 @@
 // The front of a substitution: which macro is called, its arguments counted, its body charged, the body walked, the result measured.
 // Expansion comes here too, with a call that stands in its work buffer.
+#![tactic(auto)]
+
 ghost use Rattle.std.specs.Prelude.{◌≡◌};
 ghost use Rattle.subst_call.specs.Front.{macro_from, macro_at, wrong_count, charge_body_in, refuse_too_large_in, temporal_condition_in, temporal_value_in, substitute_body_in, call_in, tapes_in, cedar_at, counted_in};
 ghost use Rattle.walk_state.specs.Writing.{progress};
@@ -18,7 +20,7 @@ use tape::text::size;
 use walk_state::writing::{State, Walk, without_message};
 
 // A macro: its definition's head, where its parameters stand, the kind and the place of its body, and the entry behind it.
-#[derive(Drop)]
+#[derive(Clone, Copy)]
 pub struct Macro {
     pub head: Heading,
     pub params: Place,
@@ -27,7 +29,7 @@ pub struct Macro {
     pub end: usize,
 }
 
-#[derive(Drop)]
+#[derive(Clone, Copy)]
 pub enum MacroRead {
     Macro(Macro),
     Nothing,

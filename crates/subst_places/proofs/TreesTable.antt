@@ -3,7 +3,7 @@
 -- Assumes nothing.
 use Prim.Native.Nat.{ℕ, zero, suc, ◌+◌, ◌*◌, ◌%◌, ◌≤◌, ◌<◌}
 use native.Mathlib.Omega.{arith}
-use mathlib.Core.Path.{◌≡◌, refl, sym, ap, ◌∙◌}
+use mathlib.Core.Path.{◌≡◌, refl, sym, ap, ◌∙◌, subst}
 use mathlib.Core.List.{List, [], ◌∷◌}
 use mathlib.Core.Bool.{Bool, true, false}
 use mathlib.Core.Option.{Option, none, some}
@@ -221,16 +221,19 @@ module _ (s : List ℕ) (l : Layout) where
       → Rows (table_from s l (length_args args) p k t) i args
   unfolding Rows table_from length_args
   table_rows CallArgs.no_args k i t e h b = tt
-  table_rows (CallArgs.cons_arg a rest) k i t e h b =
+  table_rows (CallArgs.cons_arg a rest) {p = p} k i t e h b =
       let runs = parts_args (CallArgs.cons_arg a rest) h in
       let m = measured a runs.first in
       let u = sets t k (row_of m.arg) in
       let behind : Inside s l m.arg.to (flat_args rest) = rw m.ends runs.second in
       let small : m.arg.root < 256 = omega (arith, m.is.its_root, root_small a) in
-      rw (le-leb (k + 6) (length t) (omega arith), m.measures) (
-        argument a m.arg refl (row_read t _ k i m.arg e (omega arith) small
-            (table_keeps s l (length_args rest) m.arg.to (k + 6) u)) m.is,
-        table_rows rest (k + 6) (i + 1) u (omega arith) behind (omega (arith, length-sets t k (row_of m.arg))),
+      let filled : table_from s l (suc (length_args rest)) p k t ≡ table_from s l (length_args rest) m.arg.to (k + 6) u =
+      rw (le-leb (k + 6) (length t) (omega arith), m.measures) refl in (
+        subst (λ (w : List ℕ). FoundIs s l (some a) (argument_in w i)) (sym filled)
+            (argument a m.arg refl (row_read t _ k i m.arg e (omega arith) small
+            (table_keeps s l (length_args rest) m.arg.to (k + 6) u)) m.is),
+        subst (λ (w : List ℕ). Rows w (i + 1) rest) (sym filled)
+            (table_rows rest (k + 6) (i + 1) u (omega arith) behind (omega (arith, length-sets t k (row_of m.arg)))),
       )
 
 -- ------------------------------------------------------------------ a search
@@ -301,7 +304,7 @@ pub bound_of : (d : MacroDef) (span : ℕ) (name : Text) (args : CallArgs) (limi
       call = c;
       params = past (heading_entries 60 d.span d.name (length d.params)) p;
       count = length d.params;
-      macro_name = (parts_def d h).its_name;
+      macro_name = (parts_def d h).its_name_lem;
       call_span = span;
       limit = limit;
       file = file;

@@ -92,7 +92,7 @@ pub fn subst_sigil_ref<'a>(
 // ---- a within place
 
 // What a within becomes: its own entry, or the interval that the call gives, with the place behind it.
-#[derive(Drop)]
+#[derive(Clone, Copy)]
 pub enum Interval {
     Own(Place),
     Given(Argument, Place),

@@ -15,7 +15,7 @@ use tape::text::size;
 
 // The Rust's `SubstMaps`: the layouts of the two tapes, where the parameters stand and how many they are, and what messages, charges
 // and generated names want.
-#[derive(Drop)]
+#[derive(Clone, Copy)]
 pub struct SubstMaps {
     pub definition: Layout,
     pub call: Layout,
@@ -27,14 +27,14 @@ pub struct SubstMaps {
     pub file: u16,
 }
 
-#[derive(Drop)]
+#[derive(Clone, Copy)]
 pub enum Charged {
     Paid(u32),
     Exceeded,
 }
 
 // An argument: its place and the place behind it, the code of its root, its size.
-#[derive(Drop)]
+#[derive(Clone, Copy)]
 pub struct Argument {
     pub from: Place,
     pub to: Place,
@@ -42,7 +42,7 @@ pub struct Argument {
     pub size: usize,
 }
 
-#[derive(Drop)]
+#[derive(Clone, Copy)]
 pub enum Found {
     Argument(Argument),
     Nothing,

@@ -1,6 +1,8 @@
 // The walk over a body: its own entries are copied, and a sigil becomes what the call gives for it. Each function takes the state so
 // far and hands it on once it is a refusal. `n` is the nesting that is left. When the output is full the walk goes on, since a refusal
 // that it meets later comes first.
+#![tactic(auto)]
+
 ghost use Rattle.std.specs.Prelude.{◌≡◌};
 ghost use Rattle.walk_state.specs.Writing.{progress};
 ghost use Rattle.subst_places.specs.Parameters.{tapes, items_in};
@@ -21,7 +23,7 @@ use subst_state::paste::{copy_own, gensym_for};
 use tape::layout::Place;
 use walk_state::writing::{State, Walk, without_message};
 
-#[cycle(agg_both_condition_exists_field_fields_formerly_inject_inner_predicate_refine_sides_since_subst_temporal_agg_subst_temporal_condition_subst_temporal_term_term_terms)]
+#[cycle(walk)]
 pub fn subst_temporal_condition<'a>(
     n: usize,
     def: &'a [u8],
@@ -45,7 +47,7 @@ pub fn subst_temporal_condition<'a>(
     condition(n - 1, def, call, args, buf, m, node, st, next)
 }
 
-#[cycle(agg_both_condition_exists_field_fields_formerly_inject_inner_predicate_refine_sides_since_subst_temporal_agg_subst_temporal_condition_subst_temporal_term_term_terms)]
+#[cycle(walk)]
 fn condition<'a>(
     n: usize,
     def: &'a [u8],
@@ -80,7 +82,7 @@ fn condition<'a>(
     }
 }
 
-#[cycle(agg_both_condition_exists_field_fields_formerly_inject_inner_predicate_refine_sides_since_subst_temporal_agg_subst_temporal_condition_subst_temporal_term_term_terms)]
+#[cycle(walk)]
 fn both<'a>(
     n: usize,
     def: &'a [u8],
@@ -98,7 +100,7 @@ fn both<'a>(
     subst_temporal_condition(n, def, call, args, buf, m, l)
 }
 
-#[cycle(agg_both_condition_exists_field_fields_formerly_inject_inner_predicate_refine_sides_since_subst_temporal_agg_subst_temporal_condition_subst_temporal_term_term_terms)]
+#[cycle(walk)]
 fn inner<'a>(
     n: usize,
     def: &'a [u8],
@@ -116,7 +118,7 @@ fn inner<'a>(
 }
 
 // Formerly and Previous: the within, then the condition.
-#[cycle(agg_both_condition_exists_field_fields_formerly_inject_inner_predicate_refine_sides_since_subst_temporal_agg_subst_temporal_condition_subst_temporal_term_term_terms)]
+#[cycle(walk)]
 fn formerly<'a>(
     n: usize,
     def: &'a [u8],
@@ -137,7 +139,7 @@ fn formerly<'a>(
 }
 
 // The tape has left, within, right. A refusal of the within comes before one of the left side, with what was charged before both.
-#[cycle(agg_both_condition_exists_field_fields_formerly_inject_inner_predicate_refine_sides_since_subst_temporal_agg_subst_temporal_condition_subst_temporal_term_term_terms)]
+#[cycle(walk)]
 fn since<'a>(
     n: usize,
     def: &'a [u8],
@@ -158,7 +160,7 @@ fn since<'a>(
     subst_temporal_condition(n, def, call, args, buf, m, i)
 }
 
-#[cycle(agg_both_condition_exists_field_fields_formerly_inject_inner_predicate_refine_sides_since_subst_temporal_agg_subst_temporal_condition_subst_temporal_term_term_terms)]
+#[cycle(walk)]
 fn predicate<'a>(
     n: usize,
     def: &'a [u8],
@@ -179,7 +181,7 @@ fn predicate<'a>(
     fields(n, def, call, args, buf, m, span, count, w)
 }
 
-#[cycle(agg_both_condition_exists_field_fields_formerly_inject_inner_predicate_refine_sides_since_subst_temporal_agg_subst_temporal_condition_subst_temporal_term_term_terms)]
+#[cycle(walk)]
 fn fields<'a>(
     n: usize,
     def: &'a [u8],
@@ -206,7 +208,7 @@ fn fields<'a>(
 }
 
 // A name and a term.
-#[cycle(agg_both_condition_exists_field_fields_formerly_inject_inner_predicate_refine_sides_since_subst_temporal_agg_subst_temporal_condition_subst_temporal_term_term_terms)]
+#[cycle(walk)]
 fn field<'a>(
     n: usize,
     def: &'a [u8],
@@ -230,7 +232,7 @@ fn field<'a>(
 }
 
 // A comparison's two terms, and those of arithmetic, with the span that messages show.
-#[cycle(agg_both_condition_exists_field_fields_formerly_inject_inner_predicate_refine_sides_since_subst_temporal_agg_subst_temporal_condition_subst_temporal_term_term_terms)]
+#[cycle(walk)]
 fn sides<'a>(
     n: usize,
     def: &'a [u8],
@@ -265,7 +267,7 @@ fn tp<'a>(
     subst_binder_slot(def, call, args, buf, m, span, w)
 }
 
-#[cycle(agg_both_condition_exists_field_fields_formerly_inject_inner_predicate_refine_sides_since_subst_temporal_agg_subst_temporal_condition_subst_temporal_term_term_terms)]
+#[cycle(walk)]
 fn exists<'a>(
     n: usize,
     def: &'a [u8],
@@ -285,7 +287,7 @@ fn exists<'a>(
 }
 
 // Base, fields, then the fold: the fields stand behind the base's own, and the base's count grows.
-#[cycle(agg_both_condition_exists_field_fields_formerly_inject_inner_predicate_refine_sides_since_subst_temporal_agg_subst_temporal_condition_subst_temporal_term_term_terms)]
+#[cycle(walk)]
 fn refine<'a>(
     n: usize,
     def: &'a [u8],
@@ -312,7 +314,7 @@ fn refine<'a>(
 }
 
 // The fields behind a base that was written at entry `base`, and their fold.
-#[cycle(agg_both_condition_exists_field_fields_formerly_inject_inner_predicate_refine_sides_since_subst_temporal_agg_subst_temporal_condition_subst_temporal_term_term_terms)]
+#[cycle(walk)]
 fn inject<'a>(
     n: usize,
     def: &'a [u8],
@@ -344,7 +346,7 @@ fn inject<'a>(
     fold_refine(buf, base, count, own, shape, f)
 }
 
-#[cycle(agg_both_condition_exists_field_fields_formerly_inject_inner_predicate_refine_sides_since_subst_temporal_agg_subst_temporal_condition_subst_temporal_term_term_terms)]
+#[cycle(walk)]
 fn subst_temporal_agg<'a>(
     n: usize,
     def: &'a [u8],
@@ -368,7 +370,7 @@ fn subst_temporal_agg<'a>(
     agg(n - 1, def, call, args, buf, m, node, st, next)
 }
 
-#[cycle(agg_both_condition_exists_field_fields_formerly_inject_inner_predicate_refine_sides_since_subst_temporal_agg_subst_temporal_condition_subst_temporal_term_term_terms)]
+#[cycle(walk)]
 fn agg<'a>(
     n: usize,
     def: &'a [u8],
@@ -398,7 +400,7 @@ fn agg<'a>(
     }
 }
 
-#[cycle(agg_both_condition_exists_field_fields_formerly_inject_inner_predicate_refine_sides_since_subst_temporal_agg_subst_temporal_condition_subst_temporal_term_term_terms)]
+#[cycle(walk)]
 pub fn subst_temporal_term<'a>(
     n: usize,
     def: &'a [u8],
@@ -423,7 +425,7 @@ pub fn subst_temporal_term<'a>(
     term(n - 1, def, call, args, buf, m, span, node, st, next)
 }
 
-#[cycle(agg_both_condition_exists_field_fields_formerly_inject_inner_predicate_refine_sides_since_subst_temporal_agg_subst_temporal_condition_subst_temporal_term_term_terms)]
+#[cycle(walk)]
 fn term<'a>(
     n: usize,
     def: &'a [u8],
@@ -455,7 +457,7 @@ fn term<'a>(
     }
 }
 
-#[cycle(agg_both_condition_exists_field_fields_formerly_inject_inner_predicate_refine_sides_since_subst_temporal_agg_subst_temporal_condition_subst_temporal_term_term_terms)]
+#[cycle(walk)]
 fn terms<'a>(
     n: usize,
     def: &'a [u8],

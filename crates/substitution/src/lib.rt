@@ -1,4 +1,6 @@
 // The substitution of macros/mod.rs (document 01, module 6): one definition and one call.
+#![tactic(auto)]
+
 ghost use Rattle.std.specs.Prelude.{◌≡◌, length, replicate};
 ghost use Rattle.answer.specs.Matches.{answer_with, buffers};
 ghost use Rattle.de_morgan.specs.Rewritten.{rewritten_in, rewritten_layout};

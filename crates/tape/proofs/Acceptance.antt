@@ -200,8 +200,8 @@ module _ {t : Table} {trees : Language t} {longest : ℕ} {A : Type 0} {root : R
       let nodes = r.deep a (t.nodes (is_limited longest)) in
       rw (← (r.limits a))
       (reported (short_in t.words longest es && (leb nodes 64 && (leb (r.deep a t.calls) 4 && r.listed a)))
-      ((r.passes a).says longest 0 0 (omega arith) (omega arith)) (to_limits t.words longest r.is_limited es)
-      (from_limits t.words longest r.is_limited es))
+      ((r.passes a).says longest 0 0 (omega arith) (omega arith)) (to_limits t.words longest r.is_limited_lem es)
+      (from_limits t.words longest r.is_limited_lem es))
 
   module _ (s : List ℕ) (l : Layout) (es : List Entry) (sized : l.entries ≡ length es) (filled : l.size ≡ widths_of es) (w : WellTexted es)
       (most : length es ≤ 1024) (counted : rewritten_count s l ≡ length es + 3 * tally 2 es) where
@@ -216,7 +216,7 @@ module _ {t : Table} {trees : Language t} {longest : ℕ} {A : Type 0} {root : R
         let n : length (text_of (root.flat a)) ≡ l.size = ap (λ (x : List Entry). length (text_of x)) e ∙ sym (widths_texted w) ∙ sym filled in
         let k : length (root.flat a) ≡ l.entries = ap length e ∙ sym sized in
         let q = p.run longest l.size 0 0 [] [] 0 0 false (omega arith) (omega arith) (omega arith)
-        (rw e (to_texts longest r.is_limited es well)) in
+        (rw e (to_texts longest r.is_limited_lem es well)) in
         let depths = fits_depths (root.deep node_weight a) (root.deep call_weight a) && root.few a in
         let short = short_in t.words longest es in
         let texts : (short && leb (length es + 3 * tally 2 es) 1024) ≡ root.texts es = rw e at (r.short a (rw e most)) in
@@ -325,7 +325,7 @@ module _ {t : Table} {trees : Language t} {longest : ℕ} {A : Type 0} {root : R
           welled e false q =
               rw (judged_else s l scanned (λ p o h e₁ e₂.
               let all = took_all t longest (size_of s) es (wait sort 0 0 ∷ []) 0 0 false p o h (omega (arith, k)) in
-              rw q at (from_texts longest r.is_limited all.texts_pass)))
+              rw q at (from_texts longest r.is_limited_lem all.texts_pass)))
               answers_2
 
           go : (b : Bool) → (b ≡ true → widths_of es ≡ size_of s) → (b ≡ false → widths_of es ≡ size_of s → ⊥)

@@ -192,7 +192,7 @@ module _ {A : Type 0} {root : Root A} {longest sort : ℕ} (r : RootNamed longes
       let es = root.flat a in
       let whole : encode es ≡ s = (accepted_on_tape (weighted root) r.sound s bytes a e).encoded in
       let n = h.entries_count in
-      let t = h.text_count in
+      let t = h.text_count_lem in
       let l = tape_layout (length es) (length (text_of es)) in
       let values : Values64 es = h.values_are bytes in
       let stands : Stands s 8 (8 + length es) (8 + 9 * length es) 0 0 es = rw whole at (stands_encoded es) in

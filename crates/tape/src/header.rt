@@ -6,7 +6,7 @@ use crate::layout::{Layout, of_tape};
 use buffer::read_size;
 
 // Where a tape's sections are, or the number of the refusal.
-#[derive(Drop)]
+#[derive(Clone, Copy)]
 pub enum Opened {
     Tape(Layout),
     Refused(u32),

@@ -5,7 +5,7 @@ ghost use Rattle.tape.specs.Layouts.{code_at, tape_layout, area_layout, value_at
 use buffer::held_value;
 
 // Where codes, values and text start in a slice, and how many entries and text bytes there are.
-#[derive(Drop)]
+#[derive(Clone, Copy)]
 pub struct Layout {
     pub codes: usize,
     pub values: usize,
@@ -15,7 +15,7 @@ pub struct Layout {
 }
 
 // An entry, and the offset of its text.
-#[derive(Drop)]
+#[derive(Clone, Copy)]
 pub struct Place {
     pub at: usize,
     pub text: usize,

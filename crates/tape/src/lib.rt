@@ -1,5 +1,7 @@
 // The tape of document 01, read: its sizes, entries and text, whether a slice is a tape at all, how far a subtree reaches,
 // and how large it is.
+#![tactic(auto)]
+
 pub mod accept;
 pub mod ends;
 pub mod flat;

@@ -17,14 +17,14 @@ use grammar::entry::{Head, accepts, advance, exceeds, width_of};
 use grammar::stack::{Cell, put};
 
 // Where the entries of a sort end, and whether they pass a largest figure; or they are none.
-#[derive(Drop)]
+#[derive(Clone, Copy)]
 pub enum Scanned {
     Ends(Place, bool),
     Malformed,
 }
 
 // The place behind a subtree, or there is none of the sort.
-#[derive(Drop)]
+#[derive(Clone, Copy)]
 pub enum Skipped {
     At(Place),
     Nowhere,
@@ -52,7 +52,7 @@ fn head_at(grammar: &[u64], s: &[u8], l: Layout, wanted: u64, at: usize) -> Head
 
 // What the entry at a place does to a scan: it may not stand there, or the stack has a new top, the text goes on behind the entry's own,
 // and it passes a largest figure or not.
-#[derive(Drop)]
+#[derive(Clone, Copy)]
 enum Turn {
     Refused,
     Passed(usize, usize, bool),

@@ -3,7 +3,7 @@ use buffer::{read_size, read_value};
 use tape::part::part_of;
 
 // Where a vector's parts begin, and its kind.
-#[derive(Drop)]
+#[derive(Clone, Copy)]
 pub struct Vector {
     pub kind: usize,
     pub limit: u32,

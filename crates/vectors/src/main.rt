@@ -1,10 +1,15 @@
 // Replays the list of the Rust's answers that stands in `stdin`, and says for each operation and number how many of its vectors
 // came out, the numbers, the counts and every byte of the buffers. README.md says how the list was made; differential/README.md has what its bytes are.
+#![tactic(auto)]
+
+ghost use Rattle.std.specs.Prelude.{◌≤◌, IfOk, length};
+
 use crate::list::{read_vector, start};
 use crate::run::comes_out;
 use crate::tally::{count, print};
 use buffer::read_size;
-use libc::STDIN_FILENO;
+use std::io;
+use std::io::Read;
 
 mod list;
 mod run;
@@ -20,13 +25,28 @@ fn counts() -> [u64; 1024] {
     [0; 1024]
 }
 
-fn main() {
+fn main(rt: HostRuntime) -> io::Result<()> {
     let mut list = room();
-    let n = io::read_full(STDIN_FILENO, &mut list);
-    replay(&list[..n]);
+    let n = read_full(&mut rt.stdin(), &mut list)?;
+    replay(&rt, &list[..n])
 }
 
-fn replay(s: &[u8]) {
+// Reads until the buffer is full or the input ends, and says how many bytes came.
+fn read_full(reader: &mut impl Read, buffer: &mut [u8]) -> io::Result<usize>
+    ensures { IfOk result (λ n. n ≤ length buffer.new) }
+{
+    let mut done = 0;
+    while done < buffer.len() {
+        let n = reader.read(&mut buffer[done..])?;
+        if n == 0 {
+            break;
+        }
+        done += n;
+    }
+    Ok(done)
+}
+
+fn replay(rt: &impl Print, s: &[u8]) -> io::Result<()> {
     let mut all = counts();
     let mut good = counts();
     let mut at = start(s);
@@ -40,5 +60,5 @@ fn replay(s: &[u8]) {
             count(&mut good, kind);
         }
     }
-    print(&all, &good);
+    print(rt, &all, &good)
 }

@@ -1,5 +1,5 @@
 // Vectors counted by their kind, and all of them as kind 0.
-use libc::STDOUT_FILENO;
+use std::io;
 
 fn one_more(counts: &mut [u64; 1024], kind: usize) {
     if kind < 1024 {
@@ -19,47 +19,43 @@ fn counted(counts: &[u64; 1024], kind: usize) -> u64 {
     if kind < 1024 { counts[kind] } else { 0 }
 }
 
-fn print_operation(operation: usize) -> bool {
+fn print_operation(rt: &impl Print, operation: usize) -> io::Result<()> {
     match operation {
-        1 => io::write_all(STDOUT_FILENO, b"check "),
-        2 => io::write_all(STDOUT_FILENO, b"registry "),
-        3 => io::write_all(STDOUT_FILENO, b"substitute "),
-        4 => io::write_all(STDOUT_FILENO, b"expand "),
-        5 => io::write_all(STDOUT_FILENO, b"preview "),
-        6 => io::write_all(STDOUT_FILENO, b"check_library "),
-        7 => io::write_all(STDOUT_FILENO, b"check_at "),
-        8 => io::write_all(STDOUT_FILENO, b"judge "),
-        9 => io::write_all(STDOUT_FILENO, b"merge "),
-        10 => io::write_all(STDOUT_FILENO, b"older "),
-        11 => io::write_all(STDOUT_FILENO, b"profile "),
-        12 => io::write_all(STDOUT_FILENO, b"provider "),
-        13 => io::write_all(STDOUT_FILENO, b"argument_to_term "),
-        14 => io::write_all(STDOUT_FILENO, b"term_to_argument "),
-        _ => io::write_all(STDOUT_FILENO, b"unknown "),
+        1 => print!(rt; "check "),
+        2 => print!(rt; "registry "),
+        3 => print!(rt; "substitute "),
+        4 => print!(rt; "expand "),
+        5 => print!(rt; "preview "),
+        6 => print!(rt; "check_library "),
+        7 => print!(rt; "check_at "),
+        8 => print!(rt; "judge "),
+        9 => print!(rt; "merge "),
+        10 => print!(rt; "older "),
+        11 => print!(rt; "profile "),
+        12 => print!(rt; "provider "),
+        13 => print!(rt; "argument_to_term "),
+        14 => print!(rt; "term_to_argument "),
+        _ => print!(rt; "unknown "),
     }
 }
 
-fn print_counts(all: u64, good: u64) {
-    io::print_decimal(STDOUT_FILENO, good);
-    io::write_all(STDOUT_FILENO, b" of ");
-    io::print_decimal(STDOUT_FILENO, all);
-    io::write_all(STDOUT_FILENO, b"\n");
+fn print_counts(rt: &impl Print, all: u64, good: u64) -> io::Result<()> {
+    println!(rt; "{good} of {all}")
 }
 
-fn print_kind(kind: usize, all: u64, good: u64) {
-    print_operation(kind / 64);
-    io::print_decimal(STDOUT_FILENO, (kind % 64) as u64);
-    io::write_all(STDOUT_FILENO, b": ");
-    print_counts(all, good);
+fn print_kind(rt: &impl Print, kind: usize, all: u64, good: u64) -> io::Result<()> {
+    print_operation(rt, kind / 64)?;
+    print!(rt; "{}: ", kind % 64)?;
+    print_counts(rt, all, good)
 }
 
 // A line for each kind that the list has, and the total.
-pub fn print(all: &[u64; 1024], good: &[u64; 1024]) {
+pub fn print(rt: &impl Print, all: &[u64; 1024], good: &[u64; 1024]) -> io::Result<()> {
     for kind in 1..1024usize {
         let n = counted(all, kind);
         if n != 0 {
-            print_kind(kind, n, counted(good, kind));
+            print_kind(rt, kind, n, counted(good, kind))?;
         }
     }
-    print_counts(counted(all, 0), counted(good, 0));
+    print_counts(rt, counted(all, 0), counted(good, 0))
 }

@@ -8,7 +8,7 @@ use tape::layout::{Layout, Place};
 use tape::scan::Skipped;
 
 // The place behind what was walked, or the first refusal.
-#[derive(Drop)]
+#[derive(Clone, Copy)]
 pub enum Checked {
     Passed(Place),
     Refused(Refused),

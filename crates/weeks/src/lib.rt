@@ -1,5 +1,7 @@
 // A tape without weeks, for heads of last year: document 02, point 8, turns each interval in weeks into days at seven times the amount.
 // Every other entry stays, and the text as it is.
+#![tactic(auto)]
+
 ghost use Rattle.std.specs.Prelude.{◌≡◌, ◌+◌, not, ◌||◌, T, ◌==◌};
 ghost use Rattle.std.proofs.lemmas.List.Edits.{sets};
 ghost use Rattle.format.specs.Entry.{entry, codes_of, values_of};

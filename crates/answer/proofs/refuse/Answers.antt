@@ -1,0 +1,7 @@
+-- `answer::refuse` meets its contract.
+use Rattle.answer.proofs.Ends.{refusal_answered}
+use Rattle.answer.proofs.refuse.Goals as goal
+
+pub returns : goal.returns
+returns c = let a = c.args in
+    refusal_answered a.refused a.charged _ _ _ c.number-number.ensures c.write-message_length.ensures c.number_alone.ensures

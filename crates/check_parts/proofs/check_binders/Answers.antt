@@ -1,0 +1,61 @@
+-- `check_parts::check_binders` meets its contract.
+use borrow.Author.Rules.{rules}
+use mathlib.Core.Path.{refl, ◌∙◌}
+use Rattle.walk_state.proofs.Steps.{none_left, refused_items, no_items, one_item}
+use Rattle.check_parts.proofs.Steps.{refused_binders, binders_unlisted, binders_listed}
+use Rattle.check_parts.proofs.check_binders.Goals as goal
+
+ruleset laws = (refused_binders, binders_unlisted, rules)
+
+pub enum_known-w : goal.enum_known-w
+enum_known-w c = search laws
+
+pub enum_told-1 : goal.enum_told-1
+enum_told-1 c = search laws
+
+pub returns-in_default : goal.returns-in_default
+returns-in_default c = search laws
+
+pub expect-requires : goal.expect-requires
+expect-requires c = search laws
+
+pub enum_known-count : goal.enum_known-count
+enum_known-count c = search laws
+
+pub enum_told-in_default-expect : goal.enum_told-in_default-expect
+enum_told-in_default-expect c = search laws
+
+pub malformed-requires : goal.malformed-requires
+malformed-requires c = search laws
+
+pub returns-in_default-expect : goal.returns-in_default-expect
+returns-in_default-expect c = search laws
+
+pub loop-left-init : goal.loop-left-init
+loop-left-init c = refl
+
+pub enum_told-in-Passed-a : goal.enum_told-in-Passed-a
+enum_told-in-Passed-a c = search laws
+
+pub enum_told-in_default-a : goal.enum_told-in_default-a
+enum_told-in_default-a c = search laws
+
+pub returns-in_default-a : goal.returns-in_default-a
+returns-in_default-a c = binders_listed _ _ _ _ c.in-Passed.is c.expect.ensures c.in-Value.is
+    (refused_items _ _ c.in_default-a.is ∙ c.loop-left.invariant)
+
+pub check_binder-a-requires : goal.check_binder-a-requires
+check_binder-a-requires c = search laws
+
+pub overflow_sub-left : goal.overflow_sub-left
+overflow_sub-left c = search laws
+
+pub loop-left-smaller : goal.loop-left-smaller
+loop-left-smaller c = search laws
+
+pub loop-left-preserved : goal.loop-left-preserved
+loop-left-preserved c = one_item _ c.in-Passed-a.is c.loop-left-test.true c.check_binder-a.ensures c.loop-left.invariant
+
+pub returns : goal.returns
+returns c = binders_listed _ _ _ _ c.in-Passed.is c.expect.ensures c.in-Value.is
+    (no_items _ _ (none_left c.loop-left-test.false) ∙ c.loop-left.invariant)

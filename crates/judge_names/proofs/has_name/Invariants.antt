@@ -1,0 +1,14 @@
+-- `judge_names::has_name` meets its contract. The invariant: the names that are left hold it if all do.
+use Prim.Native.Nat.{◌-◌, ◌≤◌}
+use mathlib.Core.Path.{◌≡◌}
+use Rattle.definition.specs.Check.{contains}
+use Rattle.format.specs.Names.{names_in}
+use Rattle.judge_names.specs.Entries.{text_at, entries_from, entries_in}
+use Rattle.judge_names.proofs.has_name.Given as goal
+
+abbrev pub invariant-loop-at : goal.invariant-loop-at
+invariant-loop-at l = (contains (names_in (entries_from l.s l.l l.at (l.l.entries - l.at))) l.name ≡ contains (names_in (entries_in l.s l.l)) l.name)
+    × (l.text ≡ text_at l.s l.l l.at) × (l.text ≤ l.l.size) × (l.at ≤ l.l.entries)
+
+abbrev pub decreases-loop-at : goal.decreases-loop-at
+decreases-loop-at l = l.l.entries - l.at

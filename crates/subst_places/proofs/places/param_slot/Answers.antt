@@ -1,0 +1,54 @@
+-- `subst_places::places::param_slot` meets its contract.
+use mathlib.Core.Path.{ap}
+use Rattle.walk_state.specs.Writing.{going}
+use Rattle.subst_places.specs.Parameters.{param_slot_in}
+use borrow.Author.Rules.{rules}
+use Rattle.subst_places.proofs.places.param_slot.Goals as goal
+
+pub arg_for-requires : goal.arg_for-requires
+unfolding param_slot_in
+arg_for-requires c = search rules
+
+pub enum_known-arg : goal.enum_known-arg
+unfolding param_slot_in
+enum_known-arg c = search rules
+
+pub enum_told-1 : goal.enum_told-1
+unfolding param_slot_in
+enum_told-1 c = search rules
+
+pub unbound-requires : goal.unbound-requires
+unfolding param_slot_in
+unbound-requires c = search rules
+
+pub returns-in_default : goal.returns-in_default
+unfolding param_slot_in
+returns-in_default c = rw (← c.arg_for.ensures, c.in_default.is, ← c.unbound.ensures)
+
+pub has_root-requires : goal.has_root-requires
+unfolding param_slot_in
+has_root-requires c = search rules
+
+pub text_between-ident-requires : goal.text_between-ident-requires
+unfolding param_slot_in
+text_between-ident-requires c = search rules
+
+pub put_text-out-requires : goal.put_text-out-requires
+unfolding param_slot_in
+put_text-out-requires c = search rules
+
+pub shape_of-buf-then-has_root : goal.shape_of-buf-then-has_root
+unfolding param_slot_in
+shape_of-buf-then-has_root c = search rules
+
+pub returns-then-has_root : goal.returns-then-has_root
+unfolding param_slot_in
+returns-then-has_root c = rw (← c.arg_for.ensures, c.in-Argument.is, ← c.has_root.ensures, c.if-has_root.true, ← c.text_between-ident.ensures) (ap (going _ _) c.put_text-out.ensures)
+
+pub refuse-requires : goal.refuse-requires
+unfolding param_slot_in
+refuse-requires c = search rules
+
+pub returns : goal.returns
+unfolding param_slot_in
+returns c = rw (← c.arg_for.ensures, c.in-Argument.is, ← c.has_root.ensures, c.if-has_root.false, ← c.refuse.ensures)
