@@ -1,5 +1,5 @@
-// The Rust's `Registry`: it keeps its definitions by a reference to the lent tape. The borrow checker covers no function over
-// such a struct, so each is proved by a walk of its MIR, and leaves the work to a covered function.
+// The Rust's `Registry`: it keeps its definitions by a reference to the lent tape. Each function over it leaves the work to one over
+// plain slices.
 #![tactic(auto)]
 
 ghost use Rattle.std.specs.Prelude.{◌≡◌, ◌/◌, length};

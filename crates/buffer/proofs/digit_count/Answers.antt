@@ -1,4 +1,3 @@
--- `buffer::digit_count` meets its contract. The loop's invariant: the digits counted and those of what is left, together one too many.
 use mathlib.Core.Path.{ap}
 use native.Mathlib.Omega.{arith}
 use lib.ListN.{length, length-append}

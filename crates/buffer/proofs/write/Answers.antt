@@ -1,4 +1,3 @@
--- `buffer::write` meets its contract. The loop's invariant: the stores that are left take `s` to what is promised.
 use mathlib.Core.Path.{◌≡◌, refl, sym, ◌∙◌}
 use Prim.Native.Nat.{◌+◌, ◌<◌}
 use native.Mathlib.Nat.{add-zero}

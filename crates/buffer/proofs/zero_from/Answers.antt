@@ -1,4 +1,3 @@
--- `buffer::zero_from` meets its contract. The loop's invariant: zeros from `i` on are what is promised.
 use mathlib.Core.Path.{sym, ◌∙◌}
 use native.Mathlib.Omega.{arith}
 use lib.ListN.{length-set}

@@ -1,4 +1,3 @@
--- `check_library::put_list` meets its contract. The invariant: the rows that are left, behind the list so far, make the whole list.
 use native.Mathlib.Omega.{arith}
 use mathlib.Core.Path.{refl}
 use Rattle.check_library.proofs.Steps.{put_turn, put_end}

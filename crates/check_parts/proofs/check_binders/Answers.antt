@@ -1,4 +1,3 @@
--- `check_parts::check_binders` meets its contract.
 use borrow.Author.Rules.{rules}
 use mathlib.Core.Path.{refl, ◌∙◌}
 use Rattle.walk_state.proofs.Steps.{none_left, refused_items, no_items, one_item}

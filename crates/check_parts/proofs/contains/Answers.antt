@@ -1,4 +1,3 @@
--- `check_parts::contains` meets its contract. The invariant: what the names that are left contain is what all of them contain.
 use mathlib.Core.Path.{refl, ap, ◌∙◌}
 use Rattle.definition.specs.Text.{eq_text}
 use Rattle.nodes.specs.Node.{name_at}

@@ -1,5 +1,3 @@
--- The proof of the cycle of the walkers. The measure is three times the nesting and a rank: a member's rank is above those of the
--- members that it calls at its own nesting. Each `returns` is one law of `Walking` with what the code learnt on the way.
 use borrow.Author.Rules.{rules}
 use mathlib.Core.Path.{refl, ◌∙◌, ap}
 use Rattle.check_walk.specs.Walk.{walkers}

@@ -1,5 +1,3 @@
--- `de_morgan::none_among` meets its contract. The loop's invariant: none was found, and none is from i on, exactly if there is none.
--- one more code, of which b says whether it is an Or, and t Ors behind it
 use Prim.Native.Nat.{ℕ, ◌+◌}
 use mathlib.Core.Path.{◌≡◌, refl, sym, ap, ◌∙◌}
 use mathlib.Core.Bool.{Bool, true, false, not, ◌&&◌, ◌||◌}

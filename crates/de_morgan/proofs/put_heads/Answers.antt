@@ -1,5 +1,3 @@
--- `de_morgan::put_heads` meets its contract. The loop's invariant: what is left to put gives the whole, and the list has room for the
--- Ors that are left.
 use Prim.Native.Nat.{ℕ, suc, ◌+◌, ◌-◌, ◌≤◌}
 use mathlib.Core.Path.{◌≡◌, refl, sym, ap, ◌∙◌}
 use native.Mathlib.Omega.{arith}

@@ -1,4 +1,3 @@
--- `expand_counts::count_entries` meets its contract. The invariant: the entries that are left make of the counts so far what all make of those given.
 use native.Mathlib.Omega.{arith}
 use mathlib.Core.Path.{refl}
 use Rattle.expand_counts.proofs.Steps.{entries_start, entries_done, entry_long, entry_taken}

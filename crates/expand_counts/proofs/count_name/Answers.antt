@@ -1,4 +1,3 @@
--- `expand_counts::count_name` meets its contract. The invariant: the counts that are done, and the others raised by the rows that are left.
 use native.Mathlib.Omega.{arith}
 use mathlib.Core.Path.{refl, ap, ◌∙◌}
 use lib.ListN.{length}

@@ -1,4 +1,3 @@
--- The proof of the cycle of a term and the items of an array. The measure is twice the nesting, and one more for the items.
 use borrow.Author.Rules.{rules}
 use borrow.Enum.Known.{lives_at}
 use mathlib.Core.Logic.{⊎_elim}

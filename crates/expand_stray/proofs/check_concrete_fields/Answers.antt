@@ -1,4 +1,3 @@
--- `expand_stray::check_concrete_fields` meets its contract.
 use borrow.Author.Rules.{rules}
 use mathlib.Core.Path.{refl, ap, ◌∙◌}
 use Rattle.walk_state.proofs.Steps.{none_left, refused_items, no_items, one_item}

@@ -1,4 +1,3 @@
--- `judge_names::agrees_before` meets its contract. The invariant: whether the pair agrees with those before entry `at`.
 use native.Mathlib.Omega.{arith}
 use mathlib.Core.Path.{refl, ap, ◌∙◌}
 use Rattle.definition.specs.Agree.{consistent_with}

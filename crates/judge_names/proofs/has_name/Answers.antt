@@ -1,4 +1,3 @@
--- `judge_names::has_name` meets its contract. The invariant: the names that are left hold it if all do.
 use native.Mathlib.Omega.{arith}
 use mathlib.Core.Path.{refl}
 use Rattle.judge_names.specs.Entries.{text_at}

@@ -1,4 +1,3 @@
--- `judge_names::same_entries` meets its contract. The invariant: the entries that are left are the same, behind the pairs of those before, if all are.
 use native.Mathlib.Omega.{arith}
 use mathlib.Core.Path.{refl}
 use Rattle.judge_names.specs.Entries.{text_at}

@@ -1,4 +1,3 @@
--- `nodes::past_texts` meets its contract. The loop's invariant: the way past what is left is the way past all. Assumes nothing.
 use mathlib.Core.Path.{refl, sym, ◌∙◌}
 use borrow.Author.Rules.{rules}
 use Rattle.nodes.specs.Node.{past_texts_at}

@@ -1,5 +1,3 @@
--- `nodes::same_text` meets its contract. The loop's invariant: what is left is spelt alike if all is. Assumes nothing.
--- texts of different lengths
 use Prim.Native.Nat.{ℕ, suc, ◌+◌, ◌≤◌, ◌<◌}
 use native.Mathlib.Numerals.{add-one}
 use native.Mathlib.Omega.{arith}

@@ -1,5 +1,3 @@
--- `profile::profile_entries` meets its contract. The loop's invariant: the entries that are left, with the nodes met and the items to come,
--- decide the whole; and there is room for the items of as many conditions as may still come.
 use Prim.Native.Nat.{◌-◌}
 use mathlib.Core.Path.{◌≡◌, refl, sym, ap, ◌∙◌}
 use native.Mathlib.Omega.{arith}

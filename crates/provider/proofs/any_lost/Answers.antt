@@ -1,4 +1,3 @@
--- `provider::any_lost` meets its contract. The loop's invariant: the codes from i on decide it.
 use mathlib.Core.Path.{refl, ◌∙◌}
 use native.Mathlib.Omega.{arith}
 use Rattle.provider.proofs.Codes.{lost_here, lost_later, lost_end}

@@ -1,4 +1,3 @@
--- `provider::write_codes` meets its contract. The loop's invariant: with the codes from i on the result is what it is to be.
 use mathlib.Core.Path.{refl, sym, ap, ◌∙◌}
 use mathlib.Core.List.{List, map}
 use Prim.Native.Nat.{ℕ, ◌+◌}

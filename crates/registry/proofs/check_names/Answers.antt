@@ -1,4 +1,3 @@
--- `registry::check_names` meets its contract. The invariant: the names of the definitions that are left, after those before them, are judged as all are.
 use native.Mathlib.Omega.{arith}
 use mathlib.Core.Path.{refl}
 use Rattle.registry.proofs.Steps.{build_start, build_done, build_short, build_refused, build_more, table_room, rest_next}

@@ -1,4 +1,3 @@
--- `registry::find_key` meets its contract. The invariant: from here on the first row with the key is the one that is looked for.
 use native.Mathlib.Omega.{arith}
 use mathlib.Core.Path.{refl, sym, ◌∙◌}
 use Rattle.registry.proofs.Tables.{key_hit, key_miss, key_nowhere}

@@ -1,4 +1,3 @@
--- `registry::get` meets its contract. The invariant: what the rows find from a row with the key on is what all of them find.
 use native.Mathlib.Omega.{arith}
 use Rattle.registry.proofs.Steps.{get_start, get_done, get_unread, get_found, get_next}
 use Rattle.registry.proofs.get.Goals as goal

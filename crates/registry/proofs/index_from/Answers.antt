@@ -1,4 +1,3 @@
--- `registry::index_from` meets its contract. The invariant: the rows that are written, and then those that are left, are the whole index.
 use Prim.Native.Nat.{◌/◌}
 use native.Mathlib.Omega.{arith}
 use mathlib.Core.Path.{refl}

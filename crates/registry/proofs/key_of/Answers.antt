@@ -1,4 +1,3 @@
--- `registry::key_of` meets its contract. The invariant: the key so far and the bytes that are left give the name's key.
 use native.Mathlib.Omega.{arith}
 use mathlib.Core.Path.{refl, sym, ◌∙◌}
 use Rattle.registry.specs.Places.{key_of}

@@ -1,4 +1,3 @@
--- `sheet::filled_by` meets its contract.
 use mathlib.Core.Path.{refl, sym, ◌∙◌}
 use native.Mathlib.Omega.{arith}
 use Rattle.sheet.proofs.Front.{filled_none, filled_turn, filled_end}

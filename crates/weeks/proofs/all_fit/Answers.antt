@@ -1,4 +1,3 @@
--- `weeks::all_fit` meets its contract. The loop's invariant: the entries from i on decide it.
 use Rattle.std.proofs.Common.{◌≡◌, ◌-◌, refl, ◌∙◌, arith}
 use Rattle.weeks.proofs.Heads.{fits_goes_on, fits_not, fits_end}
 use Rattle.weeks.proofs.all_fit.Goals as goal

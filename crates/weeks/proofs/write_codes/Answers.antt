@@ -1,4 +1,3 @@
--- `weeks::write_codes` meets its contract. The loop's invariant: with the codes from i on the result is what it is to be.
 use Rattle.std.proofs.Common.{◌≡◌, ℕ, ◌+◌, ◌-◌, List, sym, refl, ap, ◌∙◌, arith}
 use lib.Seq.{sets}
 use Rattle.format.specs.Entry.{entry, codes_of}

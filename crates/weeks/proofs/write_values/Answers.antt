@@ -1,4 +1,3 @@
--- `weeks::write_values` meets its contract. The loop's invariant: with the values from i on the result is what it is to be, and each of them fits.
 use Rattle.std.proofs.Common.{◌≡◌, ℕ, ◌+◌, ◌-◌, ◌*◌, List, sym, refl, ap, ◌∙◌, arith}
 use lib.Seq.{sets}
 use Rattle.format.specs.Entry.{values_of}

@@ -1,4 +1,3 @@
--- `merge::agree::same_entries` meets its contract. The invariant: what is left agrees if all does.
 use Rattle.merge.proofs.Steps.{same_differ, same_next, same_done}
 use mathlib.Core.Path.{refl}
 use Rattle.merge.proofs.agree.same_entries.Goals as goal

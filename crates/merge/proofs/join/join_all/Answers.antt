@@ -1,4 +1,3 @@
--- `merge::join::join_all` meets its contract. The invariant: what is left comes to what all comes to.
 use Rattle.merge.proofs.Steps.{join_stopped, join_next, join_done}
 use mathlib.Core.Path.{refl}
 use native.Mathlib.Omega.{arith}

@@ -1,4 +1,3 @@
--- `message_parts::names::params_above` meets its contract. The measure: how many names are left above the floor.
 use mathlib.Core.Path.{sym, ap, ◌∙◌}
 use native.Mathlib.Omega.{arith}
 use borrow.Author.Rules.{rules}

@@ -1,4 +1,3 @@
--- `message_parts::names::before` meets its contract.
 use mathlib.Core.Path.{refl, sym, ◌∙◌}
 use native.Mathlib.Omega.{arith}
 use Rattle.message_parts.proofs.Compare.{less_here, more_here, same_here, first_ends, second_ends}

@@ -1,4 +1,3 @@
--- `message_parts::names::least_above` meets its contract.
 use mathlib.Core.Path.{refl, sym, ◌∙◌}
 use Rattle.message_parts.specs.Names.{spelled}
 use Rattle.message_parts.proofs.Params.{least_next, least_end, least_done}

@@ -1,4 +1,3 @@
--- `subst_places::places::subst_binders` meets its contract. The loop's invariant: the items that are left give what all of them give.
 use mathlib.Core.Path.{refl, ◌∙◌}
 use native.Mathlib.Omega.{arith}
 use Rattle.subst_places.specs.Parameters.{binders_in}

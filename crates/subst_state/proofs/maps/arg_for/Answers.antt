@@ -1,4 +1,3 @@
--- `subst_state::maps::arg_for` meets its contract. The loop's invariant: what is left to be looked at finds what the whole search finds.
 use native.Mathlib.Omega.{arith}
 use mathlib.Core.Path.{refl, ◌∙◌}
 use Rattle.subst_state.specs.Arguments.{arg_for}

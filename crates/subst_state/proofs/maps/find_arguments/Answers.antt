@@ -1,4 +1,3 @@
--- `subst_state::maps::find_arguments` meets its contract. The loop's invariant: what is left to be written makes the whole table of what stands there.
 use native.Mathlib.Omega.{arith}
 use mathlib.Core.Path.{refl, ◌∙◌}
 use Rattle.subst_state.proofs.Steps.{table_done, table_full, table_none, table_more}

@@ -1,4 +1,3 @@
--- `tape::ends::end_of` meets its contract. The loop's invariant: the count of what is left gives the whole count's answer.
 use Prim.Native.Nat.{◌-◌}
 use mathlib.Core.Path.{refl, sym, subst, ◌∙◌}
 use native.Mathlib.Omega.{arith}

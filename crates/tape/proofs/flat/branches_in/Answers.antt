@@ -1,4 +1,3 @@
--- `tape::flat::branches_in` meets its contract. The loop's invariant: n, and such codes from i on, are all of them.
 use mathlib.Core.Path.{◌≡◌, ap, sym, ◌∙◌}
 use native.Mathlib.Omega.{arith}
 use lib.ListN.{get_or}

@@ -1,4 +1,3 @@
--- `tape::ors::count_in` meets its contract. The loop's invariant: n, and the code among those from i on, are all of it.
 use mathlib.Core.Path.{◌≡◌, ap}
 use native.Mathlib.Omega.{arith}
 use borrow.Author.Tests.{eq-eqb, ne_eqb}

@@ -1,5 +1,3 @@
--- `tape::scan::run` meets its contract. The loop's invariant: the scan of what is left gives the whole scan's answer.
--- the stack with the root's sort alone
 use mathlib.Core.Path.{◌≡◌, ap, sym, subst, ◌∙◌}
 use Prim.Native.Nat.{ℕ, ◌-◌, ◌<◌}
 use mathlib.Core.Bool.{false}

@@ -1,4 +1,3 @@
--- `tape::text::nodes` meets its contract. The loop's invariant: n, and the nodes from i on, are all nodes.
 use mathlib.Core.Path.{◌≡◌, sym, ap, ◌∙◌}
 use Prim.Native.Nat.{◌-◌}
 use Rattle.definition.specs.Size.{size}

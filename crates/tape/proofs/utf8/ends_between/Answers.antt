@@ -1,4 +1,3 @@
--- `tape::utf8::ends_between` meets its contract. The loop's invariant: the bytes from i on lead where all of them do.
 use mathlib.Core.Path.{refl, ap, sym, ◌∙◌}
 use Prim.Native.Nat.{ℕ, ◌+◌}
 use lib.Dec.{eqb}

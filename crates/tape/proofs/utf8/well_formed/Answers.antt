@@ -1,4 +1,3 @@
--- `tape::utf8::well_formed` meets its contract. The loop's invariant: the bytes before i lead nowhere.
 use mathlib.Core.Path.{refl, ap, sym, ◌∙◌}
 use Rattle.format.specs.Utf8.{well_formed}
 use Rattle.format.proofs.Utf8.{run_decides}
