@@ -135,7 +135,7 @@ module _ {file : ℕ} (above : 0 < file) (Kept : Text → Type 0) (Origin : Text
     binder : Text
     start : ℕ
     origin : Origin binder start
-    its_name_lem : name ≡ generated binder start f
+    its_name : name ≡ generated binder start f
 
   abbrev Named : ℕ → Entry → Type 0
   Named f e = T (is_name e.code) → Kept e.text ⊎ From f e.text
@@ -145,12 +145,12 @@ module _ {file : ℕ} (above : 0 < file) (Kept : Text → Type 0) (Origin : Text
   both_files (inl k) q = k
   both_files (inr p) (inl k) = k
   both_files (inr p) (inr q) =
-      let same = names_apart p.binder q.binder p.start q.start 0 file (sym p.its_name_lem ∙ q.its_name_lem) in
+      let same = names_apart p.binder q.binder p.start q.start 0 file (sym p.its_name ∙ q.its_name) in
       absurd (omega (arith, same.same_file))
 
   origin_of : (f : ℕ) (binder : Text) (start : ℕ) → From f (generated binder start f) → Origin binder start
   origin_of f binder start o =
-      let same = names_apart binder o.binder start o.start f f o.its_name_lem in
+      let same = names_apart binder o.binder start o.start f f o.its_name in
       rw (same.same_binder, same.same_start) o.origin
 
   exact : {e e' : Entry} → Loose file e e' → Named 0 e → Named file e' → LongEntry file Kept Origin e e'
@@ -215,7 +215,7 @@ substitute_named limit file def span macro args t t' n n' above e e' =
           binder = g.binder;
           start = span_start span;
           origin = record { span = span; its_binder = g.its_binder; its_call = refl; its_start = refl };
-          its_name_lem = g.its_name_lem;
+          its_name = g.its_name;
         })
 
 pub expand_named : ExpandNamed
@@ -238,5 +238,5 @@ expand_named limit file defs c t t' n n' above e e' =
           binder = g.binder;
           start = span_start g.span;
           origin = record { span = g.span; its_binder = g.its_binder; its_call = g.its_call; its_start = refl };
-          its_name_lem = g.its_name_lem;
+          its_name = g.its_name;
         })

@@ -241,11 +241,11 @@ passes_exactly c = (there, back)
     there : profile_from 0 (place_condition c) ≡ none → FitsBattery c
     there h =
         let k : Kept 0 (flat_condition c) = subst (Kept 0) (of_condition c) (kept_from 0 (place_condition c) (omega arith) h) in
-        record { no_aggregate_lem = k.aggregates; few_nodes = omega (arith, k.count); short_intervals_lem = k.intervals }
+        record { no_aggregates = k.aggregates; few_nodes = omega (arith, k.count); no_long_interval = k.intervals }
 
     back : FitsBattery c → profile_from 0 (place_condition c) ≡ none
     back k =
-        let whole : Kept 0 (flat_condition c) = record { aggregates = k.no_aggregate_lem; count = omega (arith, k.few_nodes); intervals = k.short_intervals_lem } in
+        let whole : Kept 0 (flat_condition c) = record { aggregates = k.no_aggregates; count = omega (arith, k.few_nodes); intervals = k.no_long_interval } in
         from_kept 0 (place_condition c) (subst (Kept 0) (sym (of_condition c)) whole)
 
 -- ------------------------------------------------------------------ a plain condition is returned unchanged

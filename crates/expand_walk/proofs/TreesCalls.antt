@@ -86,7 +86,7 @@ same_count reg (CallArgs.cons_arg a rest) k =
 
 -- the name of a call's head is as long as the call's name
 name_size : {s : List ℕ} {l : Layout} {p : Place} (span : ℕ) (name : Text) (args : CallArgs)
-    (i : Inside s l p (flat_call (Call.MacroCall span name args))) → (parts_call span name args i).its_name_lem.size ≡ length name
+    (i : Inside s l p (flat_call (Call.MacroCall span name args))) → (parts_call span name args i).its_name.size ≡ length name
 unfolding heading_at open_flat
 name_size {s} {l} {p} span name args i =
     let h = inside_next (entry 54 span) (text_entry 40 name ∷ entry 41 (length_args args) ∷ flat_args args) i in
@@ -109,7 +109,7 @@ module _ {R : Reads} {reg : Registry} (S : Settled R reg) (W : Walkers) {A : Typ
     {body : A → MacroBody} {become : A → SubstMaps → Walks A} (K : Kind Also flat body become) (span : ℕ) (name : Text) (args : CallArgs)
     {p : Place} (i : Inside R.condition R.layout p (flat_call (Call.MacroCall span name args))) (right : ArgsRight R reg W args) where
   abbrev its_head : Heading
-  its_head = record { span = span; name = (parts_call span name args i).its_name_lem; count = length_args args }
+  its_head = record { span = span; name = (parts_call span name args i).its_name; count = length_args args }
 
   abbrev own : List Entry
   own = heading_entries 54 span name (length_args args)
@@ -170,7 +170,7 @@ module _ {R : Reads} {reg : Registry} (S : Settled R reg) (W : Walkers) {A : Typ
           ap (λ (n : ℕ). heading_entries 54 span name n ++ flat_args args') (sym counts) in
           let since = above_trans began a in
           starting R (ap (outcome_in R.registry R.definitions R.limit R.file (called dm h (body b)) its_head P.out) x)
-          (outcome R K span name R.limit R.file dm b h few stands deep (parts_call span name args i).its_name_lem (name_size span name args i)
+          (outcome R K span name R.limit R.file dm b h few stands deep (parts_call span name args i).its_name (name_size span name args i)
           (length_args args) same result' k₁ args' counts (rewritten whole q)
           (written_kept P.out next.out.base (omega (arith, lifted)) since.size since.front w)
           (above_kept next.out.base (omega (arith, lifted)) since.size since.front) ready')
@@ -188,7 +188,7 @@ module _ {R : Reads} {reg : Registry} (S : Settled R reg) (W : Walkers) {A : Typ
           (expanded (sym (eqb-true (length dm.params) (length_args args) e)) (expand_temporal_call_args reg args k) refl
           (ending R parts.runs.ends (right begun own result (past own p) k parts.runs.first args_room ready begun_written))))
           (λ e. rw (e, check_arity)
-          (stops R (count_refusal_matches dm span name args R.limit R.file (parts_call span name args i).its_name_lem h i few R.condition R.layout)))
+          (stops R (count_refusal_matches dm span name args R.limit R.file (parts_call span name args i).its_name h i few R.condition R.layout)))
 
     -- ---------------------------------------------------------------- which macro it is
 
@@ -233,7 +233,7 @@ module _ {R : Reads} {reg : Registry} (S : Settled R reg) (W : Walkers) {A : Typ
 module _ {R : Reads} {reg : Registry} (S : Settled R reg) (W : Walkers) (span : ℕ) (name : Text) (args : CallArgs) {p : Place}
     (i : Inside R.condition R.layout p (flat_call (Call.MacroCall span name args))) where
   abbrev call_of : Heading
-  call_of = record { span = span; name = (parts_call span name args i).its_name_lem; count = length_args args }
+  call_of = record { span = span; name = (parts_call span name args i).its_name; count = length_args args }
 
   condition_choice : (m : MacroBody)
       → Chosen R (λ b. MacroBody.TemporalCondition b) m (λ def. on_condition_kind R call_of def (kind_of m)) (condition_body m name span)

@@ -419,10 +419,10 @@ heading_entries code span name count = entry code span ∷ text_entry 40 name �
 -- They are read, the name is spelled, and what follows stands behind them.
 pub record HeadingParts (s : List ℕ) (l : Layout) (p : Place) (code span : ℕ) (name : Text) (count : ℕ) (ess : List (List Entry)) (end : Place)
     : Type 0 where
-  pub its_name_lem : Name
-  pub spelled : name_at s l its_name_lem ≡ name
+  pub its_name : Name
+  pub spelled : name_at s l its_name ≡ name
   pub parts : Parts s l p (heading_entries code span name count)
-      (λ next. heading_at s l p code ≡ hr.Node (record { span = span; name = its_name_lem; count = count }) next) ess end
+      (λ next. heading_at s l p code ≡ hr.Node (record { span = span; name = its_name; count = count }) next) ess end
 
 module _ {s : List ℕ} {l : Layout} {p : Place} where
   parts_heading : (code span : ℕ) (name : Text) (count : ℕ) (es : List Entry) (rest : List (List Entry))
@@ -433,7 +433,7 @@ module _ {s : List ℕ} {l : Layout} {p : Place} where
       let h = inside_next (entry code span) (text_entry 40 name ∷ entry 41 count ∷ joined es rest) i in
       let list = inside_next (text_entry 40 name) (entry 41 count ∷ joined es rest) h in
       record {
-        its_name_lem = named (past (entry code span ∷ []) p) (length name);
+        its_name = named (past (entry code span ∷ []) p) (length name);
         spelled = is_spelled h;
         parts = parts_of_lem (heading_entries code span name count) es rest i (rw (is_expected i, is_expected h, is_expected list));
       }

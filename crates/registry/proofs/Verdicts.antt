@@ -88,7 +88,7 @@ module _ {s : List ℕ} {l : Layout} where
       let parts = parts_def d i in
       rw (parts.parts.read, parts.spelled, same d.name)
       (name_matches (build_from_at s l (rs ++ r ∷ []) qs) (build_from (d ∷ seen) ds) d (contains reserved_names d.name)
-      (record { span = d.span; name = parts.its_name_lem; count = length d.params })
+      (record { span = d.span; name = parts.its_name; count = length d.params })
       refl parts.spelled (get_finds h d.name)
       (λ new.
       from_matches (d ∷ seen) (before ++ d ∷ [])

@@ -92,7 +92,7 @@ module _ {s : List ℕ} {l : Layout} where
   described {params = params} d h =
       record {
         its_span = h.its_span;
-        its_name_lem = h.spelled;
+        its_name = h.spelled;
         its_count = h.its_count;
         its_params = h.params_stand.run.stands;
         given = d.body;

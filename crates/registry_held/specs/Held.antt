@@ -52,7 +52,7 @@ pub record Builds (s : List ℕ) (m : ℕ) (message : List ℕ) (b : Built) : Ty
 -- is on the tape, which the definition has rewritten (document 02, point 12).
 pub record Describes (s : List ℕ) (l : Layout) (h : Heading) (params : Place) (d : MacroDef) : Type 0 where
   pub its_span : h.span ≡ d.span
-  pub its_name_lem : name_at s l h.name ≡ d.name
+  pub its_name : name_at s l h.name ≡ d.name
   pub its_count : h.count ≡ length d.params
   pub its_params : Stands s l.codes l.values l.text params.at params.text (flat_params d.params)
   pub given : MacroBody

@@ -176,7 +176,7 @@ body_at_lem (MacroBody.TemporalValue t) h = (parts_body (MacroBody.TemporalValue
 
 module _ (dm : MacroDef) {def : List ℕ} {l : Layout} {p : Place} (h : Inside def l p (flat_def dm)) where
   abbrev pub def_head : Heading
-  def_head = record { span = dm.span; name = (parts_def dm h).its_name_lem; count = length dm.params }
+  def_head = record { span = dm.span; name = (parts_def dm h).its_name; count = length dm.params }
 
   abbrev pub params : Place
   params = past (heading_entries 60 dm.span dm.name (length dm.params)) p
@@ -296,7 +296,7 @@ module _ (dm : MacroDef) (span : ℕ) (name : Text) (args : CallArgs) (limit fil
   its_end = omega (arith, whole, past_at (flat_def dm) origin)
 
   abbrev pub its_name : Name
-  its_name = (parts_call span name args g).its_name_lem
+  its_name = (parts_call span name args g).its_name
 
   -- 31 alone names the call's tape
   pub tapes_cedar : (bytes : List ℕ) → dm.body ≡ MacroBody.Cedar

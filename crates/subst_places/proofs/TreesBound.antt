@@ -181,7 +181,7 @@ ranged h r = rw h.its_root r
 
 -- The tapes are those of a definition and a call.
 pub record Bound (T : Tapes) (maps : SubstMaps) : Type 0 where
-  pub its_name_lem : name_at T.definition T.maps.definition T.maps.macro_name ≡ maps.macro_name
+  pub its_name : name_at T.definition T.maps.definition T.maps.macro_name ≡ maps.macro_name
   pub its_span : T.maps.call_span ≡ maps.call_span
   pub its_limit : T.maps.limit ≡ maps.limit
   pub its_file : T.maps.file ≡ maps.file

@@ -207,7 +207,7 @@ module _ {T : Tapes} {maps : SubstMaps} (B : Bound T maps) where
   module _ (span : ℕ) (name : Name) {n : Text} (e : spells name ≡ n) where
     unbound_refusal_matches : RefusalMatchesIn T (unbound_at T.maps span name) (refusal 41 span (unbound_parameter maps.macro_name n))
     unfolding message_of
-    unbound_refusal_matches = λ t c. record { its_number = refl; its_span = refl; its_message = rw (B.its_name_lem, e) }
+    unbound_refusal_matches = λ t c. record { its_number = refl; its_span = refl; its_message = rw (B.its_name, e) }
 
     kind_refusal_matches : (reason : Name → Name → Reason) (number : ℕ) (message : Text → Text → Text)
         → ((m n : Name) → number_of (reason m n) ≡ number)
@@ -215,7 +215,7 @@ module _ {T : Tapes} {maps : SubstMaps} (B : Bound T maps) where
         (spells n))
         → RefusalMatchesIn T (refused_at span (reason T.maps.macro_name name)) (refusal number span (message maps.macro_name n))
     kind_refusal_matches reason number message f g =
-        λ t c. record { its_number = f _ name; its_span = refl; its_message = g t c _ name ∙ rw (B.its_name_lem, e) }
+        λ t c. record { its_number = f _ name; its_span = refl; its_message = g t c _ name ∙ rw (B.its_name, e) }
 
   module _ (span : ℕ) (name : Name) {n : Text} (e : spells name ≡ n) where
     -- a `?` in a condition's place, and in a term's: the argument is charged and pasted

@@ -279,11 +279,11 @@ pub bound : {T : Tapes} {maps : SubstMaps} {first : Place} (t : List ℕ)
     → name_at T.definition T.maps.definition T.maps.macro_name ≡ maps.macro_name → T.maps.call_span ≡ maps.call_span
     → T.maps.limit ≡ maps.limit → T.maps.file ≡ maps.file → Bound T maps
 unfolding arg_for
-bound {T} {maps} {first} t params count args same room filled its_name_lem its_span its_limit its_file =
+bound {T} {maps} {first} t params count args same room filled its_name its_span its_limit its_file =
     let rows : Rows T.call T.maps.call T.table 0 maps.args =
     rw filled (table_rows T.call T.maps.call maps.args 0 0 t refl args (omega arith)) in
     record {
-      its_name_lem = its_name_lem;
+      its_name = its_name;
       its_span = its_span;
       its_limit = its_limit;
       its_file = its_file;
@@ -304,7 +304,7 @@ pub bound_of : (d : MacroDef) (span : ℕ) (name : Text) (args : CallArgs) (limi
       call = c;
       params = past (heading_entries 60 d.span d.name (length d.params)) p;
       count = length d.params;
-      macro_name = (parts_def d h).its_name_lem;
+      macro_name = (parts_def d h).its_name;
       call_span = span;
       limit = limit;
       file = file;
