@@ -12,7 +12,7 @@ use Rattle.format.specs.Replace.{replace_condition, replace_term, replace_agg, r
 use Rattle.format.proofs.Counts.{length_args_lem}
 use Rattle.definition.specs.Text.{eq_text}
 use Rattle.definition.specs.Outcome.{Refusal, Outcome, Walk, pure, refuse, proceed, ◌>>=◌, ◌>>◌}
-use Rattle.definition.specs.Messages.{not_aPredicate, condition_shape, unbound_parameter, not_an_identifier}
+use Rattle.definition.specs.Messages.{not_a_predicate, condition_shape, unbound_parameter, not_an_identifier}
 use Rattle.definition.specs.Size.{body_size, call_arg_size}
 use Rattle.definition.specs.Substitute.{charge, charge_body, check_arity, check_limits, SubstMaps, maps_of, ◌or_else◌, only_if, lookup, arg_for, charge_paste, gensym_for, paste_condition, paste_term, paste_within, identifier, paste_slot, subst_binder_slot, subst_binder, subst_binders, subst_within, subst_sigil_ref, append_fields, fold_refine, subst_temporal_condition, subst_temporal_agg, subst_temporal_term, subst_temporal_terms, subst_temporal_fields, substitute_temporal_condition, substitute_temporal_value, substitute_body, substitute}
 use Rattle.definition.specs.Weeks.{exchanged_within, exchanged}
@@ -98,7 +98,7 @@ appended (NamedArgs.cons_field n t fs) gs = ap (NamedArgs.cons_field n (replace_
 
 pub refined : (c : Condition) (gs : NamedArgs) (o n : ℕ)
     → Mapped (replace_condition exchanged) (fold_refine c gs o n) (fold_refine (replace_condition exchanged c) (replace_fields exchanged gs) o n)
-unfolding fold_refine replace_condition exchanged not_aPredicate condition_shape
+unfolding fold_refine replace_condition exchanged not_a_predicate condition_shape
 refined (Condition.Predicate s q ns a k fs) gs o n = mapped (ap (Condition.Predicate s q ns a k) (appended fs gs))
 refined (Condition.And s l r) gs o n = mapped_refused
 refined (Condition.Or s l r) gs o n = mapped_refused

@@ -27,7 +27,7 @@ use Rattle.definition.specs.Expand.{expand}
 use Rattle.definition.specs.Answers.{Buffers, padded, answer, number_alone, reading, long_buffers, tree_answer, expand_tapes, expand_answer, substitute_tapes, substitute_answer, message_alone, verdict, message_answer, check_answer, registry_answer}
 use Rattle.definition.specs.Kept.{Bounded, CheckBounded, RegistryBounded, SubstituteBounded, ExpandBounded}
 use Rattle.definition.proofs.Good.{good_done, good_refused}
-use Rattle.definition.proofs.Lengths.{Short, Name, Declared, Number, short_reserved, short_duplicate, short_undeclared, short_plain, short_macro_in_macro, short_unknown, short_cedar_in_condition, short_cedar_in_value, short_value_as_condition, short_condition_as_value, short_count, short_budget, short_stray_condition, short_stray_within, short_stray_slot, short_stray_field, short_stray_operand, short_unbound, short_not_aCondition, short_binder_as_condition, short_not_an_interval, short_not_aTerm, short_not_an_identifier, short_not_aPredicate}
+use Rattle.definition.proofs.Lengths.{Short, Name, Declared, Number, short_reserved, short_duplicate, short_undeclared, short_plain, short_macro_in_macro, short_unknown, short_cedar_in_condition, short_cedar_in_value, short_value_as_condition, short_condition_as_value, short_count, short_budget, short_stray_condition, short_stray_within, short_stray_slot, short_stray_field, short_stray_operand, short_unbound, short_not_a_condition, short_binder_as_condition, short_not_an_interval, short_not_a_term, short_not_an_identifier, short_not_a_predicate}
 use Rattle.definition.proofs.Lookup.{each_def}
 use Rattle.definition.proofs.Readings.{of_reading}
 use Rattle.definition.proofs.Verdicts.{Given, passes, refuses, Any, given_body, given_build}
@@ -66,12 +66,12 @@ short_rules limit file small =
       says_39 = short_stray_field;
       says_40 = short_stray_operand;
       says_41 = short_unbound;
-      says_42 = short_not_aCondition;
+      says_42 = short_not_a_condition;
       says_43 = short_binder_as_condition;
       says_44 = short_not_an_interval;
-      says_45 = short_not_aTerm;
+      says_45 = short_not_a_term;
       says_46 = short_not_an_identifier;
-      says_47 = short_not_aPredicate;
+      says_47 = short_not_a_predicate;
     }
 
 -- ------------------------------------------------------------------ what an input's tape keeps to

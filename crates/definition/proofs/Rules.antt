@@ -14,7 +14,7 @@ use Rattle.format.specs.Flat.{flat_tree}
 use Rattle.format.specs.Limits.{too_large_tree}
 use Rattle.format.proofs.All.{All, all_map, all_both}
 use Rattle.definition.specs.Outcome.{Refusal, Outcome, span_start}
-use Rattle.definition.specs.Messages.{unknown_macro, cedar_in_condition, cedar_in_value, value_as_condition, condition_as_value, argument_count, budget_exceeded, stray_condition, stray_within, stray_slot, stray_field, stray_operand, unbound_parameter, not_aCondition, binder_as_condition, not_an_interval, not_aTerm, not_an_identifier, not_aPredicate}
+use Rattle.definition.specs.Messages.{unknown_macro, cedar_in_condition, cedar_in_value, value_as_condition, condition_as_value, argument_count, budget_exceeded, stray_condition, stray_within, stray_slot, stray_field, stray_operand, unbound_parameter, not_a_condition, binder_as_condition, not_an_interval, not_a_term, not_an_identifier, not_a_predicate}
 use Rattle.definition.specs.Substitute.{generated}
 use Rattle.definition.specs.Registry.{build}
 use Rattle.definition.proofs.Good.{Good, good_done, good_refused}
@@ -65,12 +65,12 @@ pub record Rules (N : Text → Type 0) (B I M : Entry → Type 0) (S : Text → 
   pub says_39 : (name : Text) → N name → (g : Sigil) → S (stray_field g name)
   pub says_40 : (name : Text) → N name → (g : Sigil) → S (stray_operand g name)
   pub says_41 : (macro name : Text) → N macro → N name → S (unbound_parameter macro name)
-  pub says_42 : (macro name : Text) → N macro → N name → S (not_aCondition macro name)
+  pub says_42 : (macro name : Text) → N macro → N name → S (not_a_condition macro name)
   pub says_43 : (name : Text) → N name → S (binder_as_condition name)
   pub says_44 : (macro name : Text) → N macro → N name → S (not_an_interval macro name)
-  pub says_45 : (macro name : Text) → N macro → N name → S (not_aTerm macro name)
+  pub says_45 : (macro name : Text) → N macro → N name → S (not_a_term macro name)
   pub says_46 : (macro name : Text) → N macro → N name → S (not_an_identifier macro name)
-  pub says_47 : (c : Condition) → S (not_aPredicate c)
+  pub says_47 : (c : Condition) → S (not_a_predicate c)
 
 -- of a number nothing is asked
 abbrev pub Any-number : ℕ → Type 0

@@ -28,7 +28,7 @@ use Rattle.definition.proofs.Verdicts.{Given, passes, refuses, given_body, given
 use Rattle.definition.proofs.Rules.{closed_texts, Rules, Any-number, Unasked, in_table, Known, RefusalMatches, Fits}
 use Rattle.definition.proofs.SaidSubstitute.{def_name, def_body, said_substitute}
 use Rattle.definition.proofs.SaidExpand.{said_expand}
-use Rattle.definition.proofs.WholeMessages.{Well, well_generated, well_reserved, well_duplicate, well_undeclared, well_plain, well_unknown, well_cedar_in_condition, well_cedar_in_value, well_value_as_condition, well_condition_as_value, well_count, well_stray_condition, well_stray_within, well_stray_slot, well_stray_field, well_stray_operand, well_binder_as_condition, well_unbound, well_not_aCondition, well_not_an_interval, well_not_aTerm, well_not_an_identifier, well_macro_in_macro, well_budget, well_not_aPredicate}
+use Rattle.definition.proofs.WholeMessages.{Well, well_generated, well_reserved, well_duplicate, well_undeclared, well_plain, well_unknown, well_cedar_in_condition, well_cedar_in_value, well_value_as_condition, well_condition_as_value, well_count, well_stray_condition, well_stray_within, well_stray_slot, well_stray_field, well_stray_operand, well_binder_as_condition, well_unbound, well_not_a_condition, well_not_an_interval, well_not_a_term, well_not_an_identifier, well_macro_in_macro, well_budget, well_not_a_predicate}
 
 -- ------------------------------------------------------------------ the rules
 
@@ -58,12 +58,12 @@ whole_rules limit file =
       says_39 = well_stray_field;
       says_40 = well_stray_operand;
       says_41 = well_unbound;
-      says_42 = well_not_aCondition;
+      says_42 = well_not_a_condition;
       says_43 = well_binder_as_condition;
       says_44 = well_not_an_interval;
-      says_45 = well_not_aTerm;
+      says_45 = well_not_a_term;
       says_46 = well_not_an_identifier;
-      says_47 = well_not_aPredicate;
+      says_47 = well_not_a_predicate;
     }
 
 abbrev pub WholeEntry : Entry → Type 0

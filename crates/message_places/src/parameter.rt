@@ -1,7 +1,7 @@
 // Numbers 41 to 46, of a parameter in a body, and 47.
 ghost use Rattle.std.specs.Prelude.{◌≡◌, [], ◌∷◌};
 ghost use Rattle.definition.specs.Text.{utf8};
-ghost use Rattle.definition.specs.Messages.{unbound_parameter, not_aCondition, binder_as_condition, not_an_interval, not_aTerm, not_an_identifier, condition_shape, not_aPredicate};
+ghost use Rattle.definition.specs.Messages.{unbound_parameter, not_a_condition, binder_as_condition, not_an_interval, not_a_term, not_an_identifier, condition_shape, not_a_predicate};
 ghost use Rattle.nodes.specs.Node.{name_at};
 ghost use Rattle.buffer.specs.Buffer.{message_in, write_in, Written};
 ghost use Rattle.message_parts.specs.Write.{Writes};
@@ -42,7 +42,7 @@ fn parameter_use(
 }
 
 pub fn not_a_condition(message: &mut [u8], s: &[u8], l: Layout, owner: Name, name: Name) -> usize
-    ensures { Written message.old message.new result (not_aCondition (name_at s.now l owner) (name_at s.now l name)) }
+    ensures { Written message.old message.new result (not_a_condition (name_at s.now l owner) (name_at s.now l name)) }
 {
     parameter_use(
         message,
@@ -81,7 +81,7 @@ pub fn not_an_interval(message: &mut [u8], s: &[u8], l: Layout, owner: Name, nam
 }
 
 pub fn not_a_term(message: &mut [u8], s: &[u8], l: Layout, owner: Name, name: Name) -> usize
-    ensures { Written message.old message.new result (not_aTerm (name_at s.now l owner) (name_at s.now l name)) }
+    ensures { Written message.old message.new result (not_a_term (name_at s.now l owner) (name_at s.now l name)) }
 {
     parameter_use(
         message,
@@ -107,7 +107,7 @@ pub fn not_an_identifier(message: &mut [u8], s: &[u8], l: Layout, owner: Name, n
 }
 
 pub fn not_a_predicate(message: &mut [u8], code: u8) -> usize
-    ensures { Written message.old message.new result (not_aPredicate (of_code code)) }
+    ensures { Written message.old message.new result (not_a_predicate (of_code code)) }
 {
     let a = write_at(
         message,

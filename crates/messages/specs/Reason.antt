@@ -22,12 +22,12 @@ use Rattle.definition.specs.Messages.{
   stray_field,
   stray_operand,
   unbound_parameter,
-  not_aCondition,
+  not_a_condition,
   binder_as_condition,
   not_an_interval,
-  not_aTerm,
+  not_a_term,
   not_an_identifier,
-  not_aPredicate,
+  not_a_predicate,
 }
 use Rattle.nodes.specs.Node.{name_at, span_of}
 use Rattle.tape.specs.declared.layout.Layout.{Layout}
@@ -115,9 +115,9 @@ message_of s d t c (StraySlot g n) = stray_slot (sigil_of g) (name_at t c n)
 message_of s d t c (StrayField g n) = stray_field (sigil_of g) (name_at t c n)
 message_of s d t c (StrayOperand g n) = stray_operand (sigil_of g) (name_at t c n)
 message_of s d t c (Unbound m n) = unbound_parameter (name_at s d m) (name_at s d n)
-message_of s d t c (NotACondition m n) = not_aCondition (name_at s d m) (name_at s d n)
+message_of s d t c (NotACondition m n) = not_a_condition (name_at s d m) (name_at s d n)
 message_of s d t c (BinderAsCondition n) = binder_as_condition (name_at s d n)
 message_of s d t c (NotAnInterval m n) = not_an_interval (name_at s d m) (name_at s d n)
-message_of s d t c (NotATerm m n) = not_aTerm (name_at s d m) (name_at s d n)
+message_of s d t c (NotATerm m n) = not_a_term (name_at s d m) (name_at s d n)
 message_of s d t c (NotAnIdentifier m n) = not_an_identifier (name_at s d m) (name_at s d n)
-message_of s d t c (NotAPredicate code) = not_aPredicate (of_code code)
+message_of s d t c (NotAPredicate code) = not_a_predicate (of_code code)

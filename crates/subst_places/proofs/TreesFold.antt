@@ -18,7 +18,7 @@ use Rattle.format.proofs.All.{all_nil, all_cons, all_tail, all_append, all_left,
 use Rattle.format.proofs.Behind.{length_texts, fields_count}
 use Rattle.format.proofs.Stands.{text_append, stands_front, stands_back}
 use Rattle.definition.specs.Outcome.{refusal}
-use Rattle.definition.specs.Messages.{condition_shape, not_aPredicate}
+use Rattle.definition.specs.Messages.{condition_shape, not_a_predicate}
 use Rattle.definition.specs.Substitute.{append_fields, fold_refine}
 use Rattle.buffer.proofs.Decides.{both, cases}
 use Rattle.tape.specs.Pick.{pick}
@@ -230,8 +230,8 @@ strict_fold base count span shape r k bytes = refl
 
 module _ (T : Tapes) where
   -- the words for a refined condition go by its code
-  fold_refusal_matches : (c : Condition) (span : ℕ) → RefusalMatchesIn T (refused_at span (NotAPredicate (root_condition c))) (refusal 47 span (not_aPredicate c))
-  unfolding message_of of_code root_condition not_aPredicate condition_shape
+  fold_refusal_matches : (c : Condition) (span : ℕ) → RefusalMatchesIn T (refused_at span (NotAPredicate (root_condition c))) (refusal 47 span (not_a_predicate c))
+  unfolding message_of of_code root_condition not_a_predicate condition_shape
   fold_refusal_matches (Condition.And s l r) span = λ t c. record { its_number = refl; its_span = refl; its_message = refl }
   fold_refusal_matches (Condition.Or s l r) span = λ t c. record { its_number = refl; its_span = refl; its_message = refl }
   fold_refusal_matches (Condition.Not s c) span = λ t c. record { its_number = refl; its_span = refl; its_message = refl }

@@ -16,7 +16,7 @@ use Rattle.format.proofs.All.{all_nil, all_cons, all_append}
 use Rattle.format.proofs.Stands.{text_append}
 use Rattle.format.proofs.Spells.{flat_within_list, flat_slot_list}
 use Rattle.definition.specs.Outcome.{Refusal, Outcome, pure, refusal, proceed, open_outcome}
-use Rattle.definition.specs.Messages.{budget_exceeded, unbound_parameter, not_aCondition, binder_as_condition, not_an_interval, not_aTerm, not_an_identifier}
+use Rattle.definition.specs.Messages.{budget_exceeded, unbound_parameter, not_a_condition, binder_as_condition, not_an_interval, not_a_term, not_an_identifier}
 use Rattle.definition.specs.Substitute.{
   SubstMaps,
   charge,
@@ -228,11 +228,11 @@ module _ {T : Tapes} {maps : SubstMaps} (B : Bound T maps) where
         rw (o, arg_for, x) (rw (ranged h (ranges_condition c)).0 (charge_paste_matches arg _ h.inside h.ends h.its_size c p k refl w))
     param_condition p k w (argument (CallArg.TermArg t) arg o x h) =
         rw (o, arg_for, x)
-        (rw (ranged h (ranges_term t)).0 (stops T (kind_refusal_matches span name e NotACondition 42 not_aCondition (λ m n. refl) (λ t c m n. refl))))
+        (rw (ranged h (ranges_term t)).0 (stops T (kind_refusal_matches span name e NotACondition 42 not_a_condition (λ m n. refl) (λ t c m n. refl))))
     param_condition p k w (argument (CallArg.WithinArg i) arg o x h) =
         rw (o, arg_for, x)
         (rw (ranged h (ranges_unit i.unit)).0
-        (stops T (kind_refusal_matches span name e NotACondition 42 not_aCondition (λ m n. refl) (λ t c m n. refl))))
+        (stops T (kind_refusal_matches span name e NotACondition 42 not_a_condition (λ m n. refl) (λ t c m n. refl))))
 
     pub param_term : (p : Place) (k : ℕ) {P : Area} {es : List Entry} {next : Place} → Written P es → Finds name n
         → WalkMatches T flat_term P es (param_term_in T span name (state p P.out k) next P.bytes) next
@@ -243,10 +243,10 @@ module _ {T : Tapes} {maps : SubstMaps} (B : Bound T maps) where
         rw (o, arg_for, x) (rw (ranged h (ranges_term t)).1 (charge_paste_matches arg _ h.inside h.ends h.its_size t p k refl w))
     param_term p k w (argument (CallArg.ConditionArg c) arg o x h) =
         rw (o, arg_for, x)
-        (rw (ranged h (ranges_condition c)).1 (stops T (kind_refusal_matches span name e NotATerm 45 not_aTerm (λ m n. refl) (λ t c m n. refl))))
+        (rw (ranged h (ranges_condition c)).1 (stops T (kind_refusal_matches span name e NotATerm 45 not_a_term (λ m n. refl) (λ t c m n. refl))))
     param_term p k w (argument (CallArg.WithinArg i) arg o x h) =
         rw (o, arg_for, x)
-        (rw (ranged h (ranges_unit i.unit)).1 (stops T (kind_refusal_matches span name e NotATerm 45 not_aTerm (λ m n. refl) (λ t c m n. refl))))
+        (rw (ranged h (ranges_unit i.unit)).1 (stops T (kind_refusal_matches span name e NotATerm 45 not_a_term (λ m n. refl) (λ t c m n. refl))))
 
     -- in a slot's place: the argument's name, if it is one
     slot_found : {a : CallArg} {o : Option Text} {b : Bool} (arg : Argument) (p : Place)
