@@ -10,7 +10,7 @@ use lib.Seq.{take_all}
 use Rattle.format.specs.Entry.{Text, encode}
 use Rattle.format.specs.Ast.{Tree}
 use Rattle.format.specs.Flat.{flat_tree}
-use Rattle.definition.specs.Outcome.{Refusal, refusal, Outcome, open_outcome}
+use Rattle.definition.specs.Outcome.{refusal, Outcome, open_outcome}
 use Rattle.definition.specs.Answers.{Answer, Buffers, padded, answer, number_alone, verdict, message_alone, without_work, open_answers}
 use Rattle.definition.specs.Older.{result_alone}
 use Rattle.buffer.specs.Buffer.{Message, message_in as written}
@@ -24,17 +24,7 @@ use Rattle.messages.specs.declared.Refused.{Refused}
 use Rattle.walk_state.specs.declared.writing.State.{State}
 use Rattle.walk_state.specs.declared.writing.Walk.{Walk}
 use Rattle.walk_state.specs.declared.writing.Walk.TheVariants as walk
-use Rattle.answer.specs.Matches.{
-  answer_with,
-  buffers,
-  ended,
-  tree_end,
-  AnswersRefusal,
-  VerdictMatches,
-  AnswersVerdict,
-  OutcomeMatches,
-  AnswersOutcome,
-}
+use Rattle.answer.specs.Matches.{answer_with, buffers, ended, AnswersRefusal, VerdictMatches, AnswersVerdict, OutcomeMatches, AnswersOutcome}
 use Rattle.answer.specs.declared.Answer as code
 use Rattle.answer.specs.declared.Verdict as verdicts
 use Rattle.answer.specs.declared.Verdict.TheVariants.{Passes, Refused as Refuse}

@@ -1,6 +1,6 @@
 -- What an append leaves in the area, where there is room and where there is none.
 -- Assumes nothing.
-use Rattle.std.proofs.Common.{◌≡◌, ℕ, ◌+◌, ◌≤◌, true, false, List, [], ◌∷◌, ◌++◌, length, sym, refl, ap, ◌∙◌, append-nil, add-zero, arith, length-append}
+use Rattle.std.proofs.Common.{◌≡◌, ℕ, ◌+◌, ◌≤◌, true, false, List, [], ◌∷◌, ◌++◌, length, sym, refl, ◌∙◌, append-nil, add-zero, arith, length-append}
 use lib.Seq.{sets}
 use borrow.Author.Tests.{not-false}
 use Rattle.format.specs.Entry.{Text, Entry, entry, text_entry, codes_of, values_of, text_of}

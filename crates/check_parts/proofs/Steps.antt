@@ -12,7 +12,6 @@ use Rattle.nodes.specs.Node.{expect_at, past_type_at, slot_at, within_at, name_a
 use Rattle.tape.specs.declared.layout.Layout.{Layout}
 use Rattle.tape.specs.declared.layout.Place.{Place}
 use Rattle.tape.specs.declared.scan.Skipped.{Skipped}
-use Rattle.tape.specs.declared.scan.Skipped.TheVariants.{At}
 use Rattle.nodes.specs.declared.Name.{Name}
 use Rattle.nodes.specs.declared.Refusal.{Refusal}
 use Rattle.nodes.specs.declared.ValueRead.{ValueRead}

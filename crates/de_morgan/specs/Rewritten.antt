@@ -2,7 +2,7 @@
 -- of its left side, a 3 comes in front of its right one, every other entry stays, and so does the text. Where the slice holds a tree at
 -- the layout's start, this is the tape of the rewritten tree (proofs/Rewritten.antt).
 -- Assumes nothing.
-use Rattle.std.specs.Prelude.{ℕ, zero, suc, ◌+◌, ◌-◌, ◌*◌, ◌≤◌, ◌≡◌, List, [], ◌∷◌, ◌++◌, Bool, ◌&&◌, leb, ltb, eqb, length, drop, get_or}
+use Rattle.std.specs.Prelude.{ℕ, zero, suc, ◌+◌, ◌*◌, ◌≤◌, ◌≡◌, List, [], ◌∷◌, ◌++◌, Bool, ◌&&◌, leb, ltb, eqb, length, drop, get_or}
 use Rattle.std.proofs.lemmas.List.Edits.{sets}
 use Rattle.format.specs.Entry.{Entry, entry, le}
 use Rattle.format.specs.Limits.{weigh}

@@ -7,7 +7,7 @@ use mathlib.Core.Bool.{Bool, true, false}
 use mathlib.Core.List.{List}
 use Rattle.format.specs.Ast.{Condition, MacroDef, Tree}
 use Rattle.format.specs.Rewritten.{weighted, map_reading}
-use Rattle.format.specs.Tape.{Reading, Root, condition_root, registry_root, accept, read, rewritten, Bytes}
+use Rattle.format.specs.Tape.{Reading, Root, condition_root, registry_root, read, rewritten, Bytes}
 use Rattle.format.proofs.Exact.{Lawful}
 use Rattle.format.proofs.Rewritten.{Rewrites, read_as}
 use Rattle.definition.specs.Outcome.{Outcome}

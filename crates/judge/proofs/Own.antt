@@ -14,7 +14,7 @@ use Rattle.format.specs.Ast.{Condition, MacroDef, Tree}
 use Rattle.format.specs.Flat.{flat_condition, flat_tree}
 use Rattle.format.specs.Names.{is_name, rename, rename_entry}
 use Rattle.format.specs.Tape.{Reading, condition_root, named_root, registry_root, from_le, read, Bytes}
-use Rattle.format.proofs.Accepted.{Values64, OnTape, accepted_on_tape}
+use Rattle.format.proofs.Accepted.{Values64, accepted_on_tape}
 use Rattle.format.proofs.All.{All, all_nil, all_cons, all_head, all_tail, all_map, all_both}
 use Rattle.format.proofs.Encodes.{well_tree, fitting, from_le_le}
 use Rattle.format.proofs.Exact.{lawful_named}

@@ -2,7 +2,7 @@
 -- Assumes nothing.
 use Prim.Native.Nat.{ℕ, ◌-◌, ◌≤◌, ◌<◌, ◌^◌}
 use native.Mathlib.Omega.{arith}
-use mathlib.Core.Path.{◌≡◌, refl, ap}
+use mathlib.Core.Path.{◌≡◌, refl}
 use mathlib.Core.List.{List, []}
 use mathlib.Core.Bool.{Bool, true, false, ◌&&◌}
 use borrow.Author.Tests.{le-leb}
@@ -12,7 +12,7 @@ use lib.Seq.{take-append_seam}
 use Rattle.format.specs.Entry.{Entry, le, text_of, encode}
 use Rattle.format.specs.Ast.{Condition, MacroDef}
 use Rattle.format.specs.Flat.{flat_condition}
-use Rattle.format.specs.Tape.{Root, from_le, condition_root, named_root, registry_root, rewritten}
+use Rattle.format.specs.Tape.{Root, condition_root, named_root, registry_root, rewritten}
 use Rattle.format.proofs.Accepted.{Values64}
 use Rattle.format.proofs.Encodes.{WellTexted, from_le_le}
 use Rattle.format.proofs.Rewritten.{rewrites_registry, rewrites_condition, rewrites_named}

@@ -10,7 +10,7 @@ use lib.Dec.{eqb}
 use lib.ListN.{length}
 use borrow.Author.Tests.{eq-eqb, eqb-true, eqb-false}
 use Rattle.grammar.specs.Grammar as grammar
-use Rattle.format.specs.Entry.{Text, Entry, entry}
+use Rattle.format.specs.Entry.{Text, Entry}
 use Rattle.format.specs.Ast.{MacroDef}
 use Rattle.format.specs.Flat.{flat_params, flat_body, flat_def}
 use Rattle.format.specs.Macro.{is_code}

@@ -10,7 +10,7 @@ use borrow.Author.Tests.{le-leb, lt-leb}
 use lib.Dec.{eqb, eqb→eq}
 use lib.ListN.{length, replicate, length-replicate}
 use Rattle.format.specs.Entry.{Entry, encode, text_of}
-use Rattle.format.specs.Older.{older, older_entries, fits_older, Kind, TreeOf, root_of, kind_of, first_code}
+use Rattle.format.specs.Older.{older_entries, fits_older, Kind, TreeOf, root_of, kind_of, first_code}
 use Rattle.format.specs.Rewritten.{map_reading}
 use Rattle.format.specs.Tape.{Reading, read, read_tape, rewritten, Bytes}
 use Rattle.format.proofs.Becomes.{tally_none}

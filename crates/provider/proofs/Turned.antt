@@ -7,7 +7,7 @@ use mathlib.Core.Bool.{Bool, true, false, not, ◌||◌, or_assoc}
 use mathlib.Core.Option.{Option, none, some}
 use native.Mathlib.Omega.{arith}
 use lib.Dec.{eqb}
-use lib.ListN.{length, take, drop, length-append, length-map}
+use lib.ListN.{length, take, length-append, length-map}
 use lib.Seq.{sets, sets-eq, take_at, drop_at}
 use Rattle.format.specs.Ast.{Term, Terms}
 use Rattle.format.specs.Entry.{Text, Entry, le, codes_of, values_of, text_of, encode}

@@ -11,7 +11,7 @@ use lib.ListN.{length, replicate}
 use borrow.Author.Tests.{eqb-true, not-false}
 use Rattle.grammar.specs.Grammar as grammar
 use Rattle.format.specs.Entry.{Text, Entry, entry}
-use Rattle.format.specs.Ast.{Condition, Term, Call, CallArg, CallArgs, Tree, MacroBody, MacroDef}
+use Rattle.format.specs.Ast.{Condition, Term, Call, CallArgs, Tree, MacroBody, MacroDef}
 use Rattle.format.specs.Flat.{length_args, flat_condition, flat_term, flat_call, flat_tree, flat_params, flat_body, flat_def}
 use Rattle.format.specs.Limits.{node_weight, call_weight, deep_condition, deep_term, deep_tree, deep_body, fits_all, too_large_tree}
 use Rattle.format.proofs.Behind.{args_count}

@@ -2,7 +2,7 @@
 -- Assumes nothing.
 use Prim.Native.Nat.{ℕ}
 use mathlib.Core.Path.{refl}
-use mathlib.Core.Bool.{Bool, true}
+use mathlib.Core.Bool.{true}
 use mathlib.Core.List.{List, [], ◌∷◌}
 use lib.Dec.{eqb}
 use lib.ListN.{length, replicate}
@@ -10,11 +10,10 @@ use Rattle.format.specs.Entry.{Text, Entry, entry, text_entry}
 use Rattle.format.specs.Flat.{flat_texts, flat_bool}
 use Rattle.format.specs.Limits.{weigh}
 use Rattle.format.specs.Macro.{is_code}
-use Rattle.format.specs.Provider.{Arg, Args, MethodCall, Provider, length_arguments, flat_argument, flat_arguments, flat_method_call, flat_provider, deep_argument, deep_arguments, deep_provider}
+use Rattle.format.specs.Provider.{Arg, Args, Provider, length_arguments, flat_argument, flat_arguments, flat_method_call, flat_provider, deep_argument, deep_arguments, deep_provider}
 use Rattle.format.specs.Tape.{is_text, text_width}
 use Rattle.grammar.specs.Pick.{pick}
 use Rattle.grammar.specs.Provider as sort
-use Rattle.grammar.specs.Waits.{valued}
 use Rattle.grammar.specs.Words.{provider_words, follows_of}
 use Rattle.grammar.proofs.ProviderMarks.{is_argument, provider}
 use Rattle.tape.proofs.Found.{Language}

@@ -15,7 +15,7 @@ use Rattle.tape.specs.declared.layout.Place.{Place}
 use Rattle.tape.specs.declared.scan.Scanned.{Scanned}
 use Rattle.tape.specs.declared.scan.Scanned.TheVariants.{Ends, Malformed}
 use Rattle.tape.specs.declared.scan.Skipped.{Skipped}
-use Rattle.tape.specs.declared.scan.Skipped.TheVariants.{At, Nowhere}
+use Rattle.tape.specs.declared.scan.Skipped.TheVariants.{Nowhere}
 
 -- a text of an input is well-formed; where no figures are asked for, texts are not looked at
 abbrev pub text_passes : ℕ → Text → Bool

@@ -1,6 +1,5 @@
 use mathlib.Core.Path.{refl, ap, ◌∙◌}
 use Rattle.definition.specs.Text.{eq_text}
-use Rattle.nodes.specs.Node.{name_at}
 use Rattle.walk_state.proofs.Steps.{none_left}
 use Rattle.check_parts.proofs.Steps.{none_declared, no_param, is_declared, other_declared}
 use Rattle.check_parts.proofs.contains.Goals as goal

@@ -1,14 +1,8 @@
 -- `de_morgan::rewrite` meets its contract.
-use Prim.Native.Nat.{◌+◌, ◌*◌}
-use mathlib.Core.Path.{◌≡◌, refl, sym, ◌∙◌}
-use mathlib.Core.Bool.{true, false}
+use mathlib.Core.Path.{sym, ◌∙◌}
 use native.Mathlib.Omega.{arith}
-use borrow.Author.Tests.{le-leb, lt-leb}
-use lib.Dec.{leb}
 use Rattle.format.proofs.Tests.{from_true}
-use Rattle.tape.specs.Layouts.{holds}
 use Rattle.tape.proofs.Holding.{held}
-use Rattle.tape.specs.Ors.{ors_from}
 use Rattle.tape.proofs.Counting.{ors_most}
 use Rattle.de_morgan.proofs.rewrite.Goals as goal
 
