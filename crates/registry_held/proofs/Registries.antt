@@ -1,6 +1,6 @@
 -- What a registry holds that was built of a tape, and what a name finds in it.
 -- Assumes nothing.
-use Prim.Native.Nat.{ℕ}
+use Prim.Native.Nat.{ℕ, ◌<◌}
 use native.Mathlib.Omega.{arith}
 use mathlib.Core.Path.{◌≡◌, refl, sym, subst, ap, ◌∙◌}
 use mathlib.Core.List.{List, [], ◌∷◌}
@@ -113,13 +113,12 @@ module _ {s : List ℕ} {l : Layout} where
       go false k h = k h
 
 -- a registry that did not pass holds nothing
-pub nothing_found : (s name : List ℕ) (b : Built) → (b.answer.number ≡ 0 → ⊥)
-    → GetMatches s b name Nothing
+pub nothing_found : (s name : List ℕ) (b : Built) → 0 < b.answer.number → GetMatches s b name Nothing
 unfolding found_in FoundMatches get
-nothing_found s name b n = record { by_index = rw (ne_eqb b.answer.number 0 n, found_in) refl; as_defined = go }
+nothing_found s name b n = record { by_index = rw (ne_eqb b.answer.number 0 (λ z. omega (arith, n, z)), found_in) refl; as_defined = go }
   where
     go : (defs : List MacroDef) → Holds s b defs → FoundMatches s b.layout Nothing (get defs name)
-    go defs (of_tape z e a) = absurd (n z)
+    go defs (of_tape z e a) = absurd (omega (arith, n, z))
     go defs (of_nothing h) = tt
 
 pub name_found : (s name : List ℕ) (b : Built) {f : Found} → Bytes s → b.answer.number ≡ 0

@@ -73,7 +73,8 @@ fn find_at(s: &[u8], l: Layout, name: &[u8]) -> Found
 fn find(tape: &[u8], built: Built, name: &[u8]) -> Found
     ensures { GetMatches tape.now built name.now result }
 {
-    if built.answer.number != 0 {
+    let refused = built.answer.number != 0;
+    if refused {
         return Found::Nothing;
     }
     find_at(tape, built.layout, name)

@@ -79,6 +79,7 @@ fn filled_by(s: &[u8], count: u32) -> bool
 }
 
 // 57, then 2; 0 for a sheet that can be gone through.
+#[tactic(auto, using(crate::proofs::Opening::number_long, crate::proofs::Opening::number_few, crate::proofs::Opening::number_many), unfolding(crate::specs::Sheet::size_of))]
 fn check_sheet(sheet: &[u8]) -> u32
     ensures { result ≡ sheet_number sheet.now }
 {
