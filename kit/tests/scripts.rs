@@ -55,16 +55,21 @@ fn neukolja_builds_the_archive() {
     let expand = |archive| run(&script, &["expand", "x.rules"], &bin, archive);
 
     // What rt refuses is said in rt's own words.
-    let refused = "src/accept.rt:12:9: error: not so\n./proofs/Roots.antt:3:4: error[scope]: nor this";
-    let notes = "rt: chose --jobs 2 for tape\nnote: a note\nfn tape::error: proved\n";
-    program(&bin.join("rt"), &format!("cat <<'END'\n{notes}{refused}\nEND\necho 'rt: no library' >&2; exit 1"));
+    let refused = [
+        "note: src/kind.rt:16:1: it is not proved that this holds",
+        "./proofs/Roots.antt:3:4: error: not so",
+        "src/lib.rt:1:2: error[scope]: nor this",
+    ]
+    .join("\n");
+    let others = "rt: chose --jobs 2 for tape\nnote: some other\nfn tape::error: proved\n";
+    program(&bin.join("rt"), &format!("cat <<'END'\n{others}{refused}\nEND\necho 'rt: no library' >&2; exit 1"));
     let (status, text) = expand(None);
     assert!(status == 2 && text.contains(&format!("ended with status 1 and built no archive:\n{refused}\n")), "{text}");
-    assert!(text.contains("\nrt: chose --jobs 2 for tape\nrt: no library\n") && !text.contains("note"), "{text}");
+    assert!(text.contains("\nrt: chose --jobs 2 for tape\nrt: no library\n") && !text.contains("other"), "{text}");
     assert!(text.ends_with(&format!("all that it printed is in {}\n", log.display())), "{text}");
-    assert_eq!(fs::read_to_string(&log).expect("a log"), format!("{notes}{refused}\nrt: no library\n"));
+    assert_eq!(fs::read_to_string(&log).expect("a log"), format!("{others}{refused}\nrt: no library\n"));
 
-    // Where it names no error, its last lines are shown; and to end well is not enough.
+    // Where it does not say what, its last lines are shown; and to end well is not enough.
     program(&bin.join("rt"), "echo killed; kill -9 $$");
     let (status, text) = expand(None);
     assert!(status == 2 && text.contains("status 137 and built no archive:\nkilled\n"), "{text}");
