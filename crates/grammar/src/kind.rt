@@ -17,7 +17,7 @@ fn kind_of(code: u8) -> ValueKind
     ensures { result ≡ kind_of code }
 {
     match code {
-        22..=23 | 27 | 32..=33 | 40 | 43..=45 | 52 | 58..=59 | 72 | 74 => ValueKind::Text,
+        27 | 22..=23 | 32..=33 | 40 | 43..=45 | 52 | 58..=59 | 72 | 74 => ValueKind::Text,
         1..=13 | 34..=36 | 42 | 54 | 60 | 70 => ValueKind::Span,
         25..=26 | 29 | 41 | 47 | 71 | 76 => ValueKind::Count,
         _ => ValueKind::Plain,

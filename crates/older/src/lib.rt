@@ -65,7 +65,8 @@ pub fn older(tape: &[u8], res: &mut [u8]) -> Answer
     }
     match accept(tape, root_sort(first_code(tape))) {
         Opened::Tape(l) => {
-            if none_on(tape, l) {
+            let plain = none_on(tape, l);
+            if plain {
                 older_in(tape, l, res)
             } else {
                 older_rewritten(tape, l, res)

@@ -54,7 +54,8 @@ fn fits(code: u8, value: u64) -> bool
     if code != 64 {
         return true;
     }
-    if value <= 1_317_624_576_693_539_401 {
+    let small = value <= 1_317_624_576_693_539_401;
+    if small {
         return true;
     }
     17_129_119_497_016_012_215 <= value

@@ -7,15 +7,15 @@ use Rattle.older.proofs.older.Goals as goal
 pub returns-then-res-lt12296 : goal.returns-then-res-lt12296
 returns-then-res-lt12296 c = short _ c.args.tape.now c.if-res-lt12296.true c.refuse_result.ensures
 
-pub returns-then-none_on : goal.returns-then-none_on
-returns-then-none_on c = let at = c in
+pub returns-then-plain : goal.returns-then-plain
+returns-then-plain c = let at = c in
     let tape = at.args.tape.now in
     given tape (bytes_all tape (λ i. (at.shared_slice_known-1.given i).fits)) _ at.if-res-lt12296.false
     (sort_told tape at.first_code.ensures at.root_sort.ensures (sym at.accept.ensures ∙ c.in-Tape.is))
-    (sym c.none_on.ensures ∙ c.if-none_on.true) c.older_in.ensures
+    (sym c.none_on-plain.ensures ∙ c.if-plain.true) c.older_in.ensures
 
-pub returns-else-none_on : goal.returns-else-none_on
-returns-else-none_on c = let at = c in
+pub returns-else-plain : goal.returns-else-plain
+returns-else-plain c = let at = c in
     let tape = at.args.tape.now in
     given_or tape (bytes_all tape (λ i. (at.shared_slice_known-1.given i).fits)) _ at.if-res-lt12296.false
     (sort_told tape at.first_code.ensures at.root_sort.ensures (sym at.accept.ensures ∙ c.in-Tape.is))

@@ -7,10 +7,10 @@ use Rattle.weeks.proofs.fits.Goals as goal
 pub returns-then-code-ne64 : goal.returns-then-code-ne64
 returns-then-code-ne64 c = rw (ne_eqb c.args.code 64 c.if-code-ne64.true) refl
 
-pub returns-then-value-le1317624576693539401 : goal.returns-then-value-le1317624576693539401
-returns-then-value-le1317624576693539401 c = let v = c.args.value in
-    rw (c.if-code-ne64.false, seven_fits v (omega arith), le-leb v 1317624576693539401 c.if-value-le1317624576693539401.true) refl
+pub returns-then-small : goal.returns-then-small
+returns-then-small c = let v = c.args.value in
+    rw (c.if-code-ne64.false, seven_fits v (omega arith), le-leb v 1317624576693539401 (omega arith)) refl
 
 pub returns : goal.returns
 returns c = let v = c.args.value in
-    rw (c.if-code-ne64.false, seven_fits v (omega arith), lt-leb v 1317624576693539401 c.if-value-le1317624576693539401.false) refl
+    rw (c.if-code-ne64.false, seven_fits v (omega arith), lt-leb v 1317624576693539401 (omega arith)) refl

@@ -112,29 +112,29 @@ unfolding kind_of is_text is_span is_count is_code
 returns-in-25-to-26-2 c = ranged Count 25 2 tt c.args.code (omega arith)
     (omega arith) c.in-25-to-26.in_default-own.rest
 
-pub returns-in-22-to-23 : goal.returns-in-22-to-23
+pub returns-in-27 : goal.returns-in-27
 unfolding kind_of is_text is_span is_count is_code
-returns-in-22-to-23 c = ⊎_elim (λ e. rw e refl) (λ s. ⊎_elim (λ e. rw e refl) (λ s. ⊎_elim (λ e. rw e refl) (λ s. ⊎_elim (λ e. rw e refl) (λ e. rw e refl) s) s) s) c.in-22-to-23.in-22-to-23-own.keys1
+returns-in-27 c = ⊎_elim (λ e. rw e refl) (λ s. ⊎_elim (λ e. rw e refl) (λ s. ⊎_elim (λ e. rw e refl) (λ s. ⊎_elim (λ e. rw e refl) (λ e. rw e refl) s) s) s) c.in-27.in-27-own.keys1
 
-pub returns-in-22-to-23-2 : goal.returns-in-22-to-23-2
+pub returns-in-27-2 : goal.returns-in-27-2
 unfolding kind_of is_text is_span is_count is_code
-returns-in-22-to-23-2 c = ranged Text 22 2 tt c.args.code (omega arith) (omega arith)
-    c.in-22-to-23.in_default-own.rest
+returns-in-27-2 c = ranged Text 22 2 tt c.args.code (omega arith) (omega arith)
+    c.in-27.in_default-own.rest
 
-pub returns-in-22-to-23-3 : goal.returns-in-22-to-23-3
+pub returns-in-27-3 : goal.returns-in-27-3
 unfolding kind_of is_text is_span is_count is_code
-returns-in-22-to-23-3 c = ranged Text 32 2 tt c.args.code (omega arith) (omega arith)
-    c.in-22-to-23.in_default-own.rest
+returns-in-27-3 c = ranged Text 32 2 tt c.args.code (omega arith) (omega arith)
+    c.in-27.in_default-own.rest
 
-pub returns-in-22-to-23-4 : goal.returns-in-22-to-23-4
+pub returns-in-27-4 : goal.returns-in-27-4
 unfolding kind_of is_text is_span is_count is_code
-returns-in-22-to-23-4 c = ranged Text 40 6 tt c.args.code (omega arith) (omega arith)
-    c.in-22-to-23.in_default-own.rest
+returns-in-27-4 c = ranged Text 40 6 tt c.args.code (omega arith) (omega arith)
+    c.in-27.in_default-own.rest
 
-pub returns-in-22-to-23-5 : goal.returns-in-22-to-23-5
+pub returns-in-27-5 : goal.returns-in-27-5
 unfolding kind_of is_text is_span is_count is_code
-returns-in-22-to-23-5 c = ranged Text 58 2 tt c.args.code (omega arith)
-    (omega arith) c.in-22-to-23.in_default-own.rest
+returns-in-27-5 c = ranged Text 58 2 tt c.args.code (omega arith)
+    (omega arith) c.in-27.in_default-own.rest
 
 pub returns-in-1-to-13 : goal.returns-in-1-to-13
 unfolding kind_of is_text is_span is_count is_code
