@@ -1,7 +1,6 @@
 // The walk over a condition: what has no macro in it is copied, and a call becomes what its macro makes of it. Each function takes the
 // state so far and hands it on once it is a refusal. `n` is the nesting that is left. The functions stand in the Rust's order and have
-// the Rust's names without their `temporal_`, each with its helpers behind it: the name of the whole cycle, which is all their names,
-// has to fit a file's name.
+// the Rust's names without their `temporal_`, each with its helpers behind it.
 #![tactic(auto)]
 
 ghost use Rattle.std.specs.Prelude.{◌≡◌};

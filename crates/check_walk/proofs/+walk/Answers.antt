@@ -1,3 +1,4 @@
+-- Each `returns` is one law of `Walking` with what the code learnt on the way.
 use borrow.Author.Rules.{rules}
 use mathlib.Core.Path.{refl, ◌∙◌, ap}
 use Rattle.check_walk.specs.Walk.{walkers}

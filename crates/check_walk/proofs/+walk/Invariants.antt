@@ -1,5 +1,5 @@
--- The proof of the cycle of the walkers. The measure is three times the nesting and a rank: a member's rank is above those of the
--- members that it calls at its own nesting. Each `returns` is one law of `Walking` with what the code learnt on the way.
+-- The cycle of the walkers. The measure is three times the nesting and a rank: a member's rank is above those of the
+-- members that it calls at its own nesting.
 use mathlib.Core.Path.{◌≡◌}
 use Prim.Native.Nat.{◌+◌, ◌*◌}
 use Rattle.walk_state.specs.Reading.{items_in}

@@ -1,3 +1,4 @@
+-- Each `returns` is one law of `Walking` with what the code learnt on the way.
 use borrow.Enum.Refused.{opened}
 use borrow.Author.Rules.{rules}
 use borrow.Enum.Known.{lives_at}

@@ -1,3 +1,4 @@
+-- Each `returns` is one law of `Walking` with what the code learnt on the way.
 use native.Mathlib.Omega.{arith}
 use mathlib.Core.Path.{refl, ◌∙◌}
 use Rattle.subst_places.proofs.Items.{refused_items, no_items, one_item}

@@ -1,5 +1,5 @@
--- The proof of the cycle of the walkers. The measure is eight times the nesting and a rank: a member's rank is above those of the members
--- that it calls at its own nesting, and below 8. Each `returns` is one law of `Walking` with what the code learnt on the way.
+-- The cycle of the walkers. The measure is eight times the nesting and a rank: a member's rank is above those of the members
+-- that it calls at its own nesting, and below 8.
 use Prim.Native.Nat.{◌+◌, ◌*◌}
 use mathlib.Core.Path.{◌≡◌}
 use lib.ListN.{length}
