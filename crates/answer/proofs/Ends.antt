@@ -1,5 +1,6 @@
 -- What the zeros, the finished tape and the message leave in the buffers is the definition's answer, whichever buffers an operation has.
 -- Assumes nothing.
+use Rattle.std.proofs.Common.{Result, Ok, Err}
 use Prim.Native.Nat.{ℕ, min, ◌-◌, ◌≤◌}
 use native.Mathlib.Omega.{arith}
 use mathlib.Core.Path.{◌≡◌, ap, ◌∙◌}
@@ -26,8 +27,6 @@ use Rattle.walk_state.specs.declared.writing.Walk.{Walk}
 use Rattle.walk_state.specs.declared.writing.Walk.TheVariants as walk
 use Rattle.answer.specs.Matches.{answer_with, buffers, ended, AnswersRefusal, VerdictMatches, AnswersVerdict, OutcomeMatches, AnswersOutcome}
 use Rattle.answer.specs.declared.Answer as code
-use Rattle.answer.specs.declared.Verdict as verdicts
-use Rattle.answer.specs.declared.Verdict.TheVariants.{Passes, Refused as Refuse}
 
 -- ------------------------------------------------------------------ refusals
 
@@ -108,13 +107,13 @@ result_written tape {result = result} n l m a k p e =
 
 -- ------------------------------------------------------------------ verdicts
 
-module _ (s : List ℕ) (l : Layout) (b : Buffers) {a : Answer} {v : verdicts.Verdict} where
-  pub passes_answered : v ≡ Passes → a ≡ ended b (Outcome.refused (refusal 0 0 []) 0) → AnswersVerdict s l v b a
+module _ (s : List ℕ) (l : Layout) (b : Buffers) {a : Answer} {v : Result Unit Refused} where
+  pub passes_answered : v ≡ (Ok tt) → a ≡ ended b (Outcome.refused (refusal 0 0 []) 0) → AnswersVerdict s l v b a
   unfolding VerdictMatches ended open_answers open_outcome
   passes_answered p e none j n = e
   passes_answered p e (some r) j n = absurd (rw p at j)
 
-  pub refused_answered : {f : Refused} → v ≡ Refuse f → AnswersRefusal s l s l f 0 b a → AnswersVerdict s l v b a
+  pub refused_answered : {f : Refused} → v ≡ Err f → AnswersRefusal s l s l f 0 b a → AnswersVerdict s l v b a
   unfolding VerdictMatches verdict
   refused_answered p h none j n = absurd (rw p at j)
   refused_answered p h (some r) j n = h r (rw p at j) n

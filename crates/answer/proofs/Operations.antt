@@ -1,6 +1,9 @@
 -- The ways in which an operation ends: a buffer is too short; a tape is refused; what was found matches the definition's outcome. Its
 -- answer is what the definition says, whichever buffers it has and however long they must be.
 -- Assumes nothing.
+use Rattle.messages.specs.declared.Refused.{Refused}
+use Rattle.tape.specs.declared.header.Fault.{Fault}
+use Rattle.std.proofs.Common.{Result, Ok, Err}
 use Prim.Native.Nat.{ℕ, ◌≤◌, ◌<◌}
 use native.Mathlib.Omega.{arith}
 use mathlib.Core.Path.{◌≡◌, refl, sym, ap, ◌∙◌}
@@ -21,57 +24,60 @@ use Rattle.definition.specs.Outcome.{Outcome}
 use Rattle.definition.specs.Check.{Verdict}
 use Rattle.definition.specs.Answers.{Answer, Buffers, answer, number_alone, reading, long_buffers, tree_answer, verdict, message_alone, message_answer}
 use Rattle.tape.specs.Accept.{accept_named, accept_of}
-use Rattle.tape.specs.declared.header.Opened.{Opened}
-use Rattle.tape.specs.declared.header.Opened.TheVariants as opened
+use Rattle.tape.specs.Header.{fault_number}
 use Rattle.tape.specs.declared.layout.Layout.{Layout}
 use Rattle.tape.proofs.Acceptance.{RootOf, RootNamed, Answers, answers_2, answers_3, answers_tape, answers}
 use Rattle.walk_state.specs.declared.writing.Walk.{Walk}
 use Rattle.answer.specs.Matches.{ended, message_in, VerdictMatches, AnswersVerdict, OutcomeMatches, AnswersOutcome}
 use Rattle.answer.specs.Tapes.{after_first, on_first, accept_two}
-use Rattle.answer.specs.declared.Verdict as code
-use Rattle.answer.specs.declared.tapes.Accepted.TheVariants.{Both, Refused}
 
 -- ------------------------------------------------------------------ tapes
 
 -- a tape that is refused
-pub refused_tape : {A B : Type 0} (root : Root A) {longest sort n : ℕ} → RootNamed longest root sort → (s : List ℕ) (k : A → Outcome B)
-    → accept_named longest s sort ≡ opened.Refused n → reading (accept (weighted root) s) k ≡ number_alone n
+pub refused_tape : {A B : Type 0} (root : Root A) {longest sort : ℕ} {f : Fault} → RootNamed longest root sort → (s : List ℕ) (k : A → Outcome B)
+    → accept_named longest s sort ≡ Err f → reading (accept (weighted root) s) k ≡ number_alone (fault_number f)
 unfolding reading
-refused_tape {A} root {n = n} r s k e = go (answers r s) e
+refused_tape {A} root {f = f} r s k e = go (answers r s) e
   where
-    go : {x : Opened} {y : Reading A} → Answers (weighted root) s x y → x ≡ opened.Refused n → reading y k ≡ number_alone n
+    go : {x : Result Layout Fault} {y : Reading A} → Answers (weighted root) s x y → x ≡ Err f → reading y k ≡ number_alone (fault_number f)
     go answers_2 e = ap number_alone cc
     go answers_3 e = ap number_alone cc
-    go (answers_tape h p) e = absurd (let z : ◌≡◌ {A = ℕ} 0 1 = cc in omega arith)
+    go (answers_tape h p) e = absurd cc
 
 -- one of two
-pub refused_tapes : {A B C : Type 0} (first : Root A) (second : Root B) {i j n : ℕ} → RootOf first i → RootOf second j → (s t : List ℕ)
-    (k : A → B → Outcome C) → accept_two s i t j ≡ Refused n
-    → reading (accept (weighted first) s) (λ x. reading (accept (weighted second) t) (k x)) ≡ number_alone n
+pub refused_tapes : {A B C : Type 0} (first : Root A) (second : Root B) {i j : ℕ} {f : Fault} → RootOf first i → RootOf second j → (s t : List ℕ)
+    (k : A → B → Outcome C) → accept_two s i t j ≡ Err f
+    → reading (accept (weighted first) s) (λ x. reading (accept (weighted second) t) (k x)) ≡ number_alone (fault_number f)
 unfolding accept_two reading
-refused_tapes {A} first second {i} {j} {n} p q s t k e = go (answers p s) e
+refused_tapes {A} first second {i} {j} {f} p q s t k e = go (answers p s) e
   where
-    then : (x : A) (d : Layout) (y : Opened) → accept_of t j ≡ y → after_first d y ≡ Refused n → reading (accept (weighted second) t) (k x) ≡ number_alone n
-    then x d (opened.Tape c) z e = absurd (let z : ◌≡◌ {A = ℕ} 0 1 = cc in omega arith)
-    then x d (opened.Refused m) z e = refused_tape second q t (k x) (z ∙ cc)
+    then : (x : A) (d : Layout) (y : Result Layout Fault) → accept_of t j ≡ y → after_first d y ≡ Err f
+        → reading (accept (weighted second) t) (k x) ≡ number_alone (fault_number f)
+    then x d (Ok c) z e = absurd cc
+    then x d (Err m) z e = refused_tape second q t (k x) (z ∙ cc)
 
-    go : {x : Opened} {y : Reading A} → Answers (weighted first) s x y → on_first x (accept_of t j) ≡ Refused n
-        → reading y (λ x. reading (accept (weighted second) t) (k x)) ≡ number_alone n
+    go : {x : Result Layout Fault} {y : Reading A} → Answers (weighted first) s x y → on_first x (accept_of t j) ≡ Err f
+        → reading y (λ x. reading (accept (weighted second) t) (k x)) ≡ number_alone (fault_number f)
     go answers_2 e = ap number_alone cc
     go answers_3 e = ap number_alone cc
     go (answers_tape {a = a} {l = l} h p) e = then a l (accept_of t j) refl e
 
-both_accepted : {d c : Layout} (x y : Opened) → on_first x y ≡ Both d c → (x ≡ opened.Tape d) × (y ≡ opened.Tape c)
-both_accepted (opened.Tape d₁) (opened.Tape c₁) e = (cc, cc)
-both_accepted (opened.Tape d₁) (opened.Refused n) e = absurd (let z : ◌≡◌ {A = ℕ} 0 1 = cc in omega arith)
-both_accepted (opened.Refused n) y e = absurd (let z : ◌≡◌ {A = ℕ} 0 1 = cc in omega arith)
+-- a layout of the two
+abbrev layout_of : (Layout × Layout → Layout) → Result (Layout × Layout) Fault → Result Layout Fault
+layout_of f (Ok p) = Ok (f p)
+layout_of f (Err n) = Err n
 
-module _ (s t : List ℕ) (i j : ℕ) {d c : Layout} (e : accept_two s i t j ≡ Both d c) where
-  pub first_accepted : accept_of s i ≡ opened.Tape d
+both_accepted : {d c : Layout} (x y : Result Layout Fault) → on_first x y ≡ Ok (d, c) → (x ≡ Ok d) × (y ≡ Ok c)
+both_accepted (Ok d₁) (Ok c₁) e = (ap (layout_of (λ p. p.0)) e, ap (layout_of (λ p. p.1)) e)
+both_accepted (Ok d₁) (Err n) e = absurd cc
+both_accepted (Err n) y e = absurd cc
+
+module _ (s t : List ℕ) (i j : ℕ) {d c : Layout} (e : accept_two s i t j ≡ Ok (d, c)) where
+  pub first_accepted : accept_of s i ≡ Ok d
   unfolding accept_two
   first_accepted = (both_accepted (accept_of s i) (accept_of t j) e).0
 
-  pub second_accepted : accept_of t j ≡ opened.Tape c
+  pub second_accepted : accept_of t j ≡ Ok c
   unfolding accept_two
   second_accepted = (both_accepted (accept_of s i) (accept_of t j) e).1
 
@@ -166,13 +172,13 @@ module _ {A : Type 0} (root : Root A) {sort : ℕ} (r : RootOf root sort) (find 
   abbrev verdicts : Outcome (Unit {0})
   verdicts = reading (accept (weighted root) s) λ x. verdict (find x)
 
-  pub message_refused : {n : ℕ} {a : Answer} → 2048 ≤ m → accept_of s sort ≡ opened.Refused n → a ≡ ended (message_alone m) (number_alone n)
+  pub message_refused : {f : Fault} {a : Answer} → 2048 ≤ m → accept_of s sort ≡ Err f → a ≡ ended (message_alone m) (number_alone (fault_number f))
       → a ≡ message_answer m verdicts
   unfolding message_answer
-  message_refused {n} h q e =
-      ends_refused (λ (u : Unit {0}). []) (message_alone m) verdicts n (le-leb 2048 m h) (refused_tape root r s (λ x. verdict (find x)) q) e
+  message_refused {f} h q e =
+      ends_refused (λ (u : Unit {0}). []) (message_alone m) verdicts (fault_number f) (le-leb 2048 m h) (refused_tape root r s (λ x. verdict (find x)) q) e
 
-  pub message_verdict : {x : A} (l : Layout) (v : code.Verdict) {a : Answer} → 2048 ≤ m → accept (weighted root) s ≡ Reading.accepted x
+  pub message_verdict : {x : A} (l : Layout) (v : Result Unit Refused) {a : Answer} → 2048 ≤ m → accept (weighted root) s ≡ Reading.accepted x
       → (message_answer m verdicts).message_length ≤ 2048 → VerdictMatches s l v (find x) → AnswersVerdict s l v (message_alone m) a
       → a ≡ message_answer m verdicts
   unfolding message_answer reading ended
@@ -194,9 +200,9 @@ module _ {A B : Type 0} (first : Root A) (second : Root B) {i j : ℕ} (p : Root
   abbrev trees : Outcome Tree
   trees = reading (accept (weighted first) s) λ x. reading (accept (weighted second) t) λ y. find x y
 
-  pub tree_refused : {n : ℕ} {a : Answer} → long_buffers b ≡ true → accept_two s i t j ≡ Refused n → a ≡ ended b (number_alone n) → a ≡ tree_answer b trees
+  pub tree_refused : {f : Fault} {a : Answer} → long_buffers b ≡ true → accept_two s i t j ≡ Err f → a ≡ ended b (number_alone (fault_number f)) → a ≡ tree_answer b trees
   unfolding tree_answer
-  tree_refused {n} h k e = ends_refused tree_tape b trees n h (refused_tapes first second p q s t find k) e
+  tree_refused {f} h k e = ends_refused tree_tape b trees (fault_number f) h (refused_tapes first second p q s t find k) e
 
   -- u and v are the tapes that were walked: those that were given, or rewritten
   pub tree_walked : {x : A} {y : B} (u v : List ℕ) (d c : Layout) (w : Walk) (bytes : List ℕ) {a : Answer} → long_buffers b ≡ true → accept (weighted first) s ≡ Reading.accepted x

@@ -1,7 +1,7 @@
 -- The code's answers, refusals, verdicts and walks beside the definition's. An operation has only the buffers it needs; one that it has
 -- not is empty, and 0 bytes long in `Buffers`.
 -- Assumes nothing.
-use Rattle.std.specs.Prelude.{ℕ, ◌≤◌, ◌≡◌, List, [], true, length}
+use Rattle.std.specs.Prelude.{ℕ, ◌≤◌, ◌≡◌, List, [], true, length, Result, Ok, Err}
 use Rattle.std.proofs.Math.Option.{none, some}
 use Rattle.format.specs.Entry.{Text, encode}
 use Rattle.format.specs.Ast.{Tree}
@@ -18,8 +18,6 @@ use Rattle.messages.specs.declared.Refused.{Refused}
 use Rattle.walk_state.specs.declared.writing.Walk.{Walk}
 use Rattle.walk_state.specs.declared.writing.Walk.TheVariants as walk
 use Rattle.answer.specs.declared.Answer.{Answer}
-use Rattle.answer.specs.declared.Verdict as code
-use Rattle.answer.specs.declared.Verdict.TheVariants.{Passes, Refused as Refuse}
 
 -- ------------------------------------------------------------------ answers
 
@@ -67,14 +65,14 @@ AnswersRefusal s d t c f charged b a =
 
 -- ------------------------------------------------------------------ verdicts
 
-unfoldable pub VerdictMatches : List ℕ → Layout → code.Verdict → Verdict → Type 0
-VerdictMatches s l Passes none = Unit {0}
-VerdictMatches s l Passes (some r) = ⊥
-VerdictMatches s l (Refuse f) none = ⊥
-VerdictMatches s l (Refuse f) (some r) = RefusalMatches s l s l f r
+unfoldable pub VerdictMatches : List ℕ → Layout → Result Unit Refused → Verdict → Type 0
+VerdictMatches s l (Ok tt) none = Unit {0}
+VerdictMatches s l (Ok tt) (some r) = ⊥
+VerdictMatches s l (Err f) none = ⊥
+VerdictMatches s l (Err f) (some r) = RefusalMatches s l s l f r
 
 -- a is the answer of every verdict that matches
-abbrev pub AnswersVerdict : List ℕ → Layout → code.Verdict → Buffers → definition.Answer → Type 0
+abbrev pub AnswersVerdict : List ℕ → Layout → Result Unit Refused → Buffers → definition.Answer → Type 0
 AnswersVerdict s l v b a =
     (w : Verdict) → VerdictMatches s l v w → length (message_in (definition.verdict w)) ≤ b.message_length
     → a ≡ ended b (definition.verdict w)

@@ -1,20 +1,17 @@
 -- The acceptance of two tapes: all of the first comes before the second is looked at.
 -- Assumes nothing.
-use Rattle.std.specs.Prelude.{ℕ, List}
+use Rattle.tape.specs.declared.header.Fault.{Fault}
+use Rattle.std.specs.Prelude.{ℕ, List, Result, Ok, Err}
 use Rattle.tape.specs.Accept.{accept_of}
-use Rattle.tape.specs.declared.header.Opened.{Opened}
-use Rattle.tape.specs.declared.header.Opened.TheVariants as opened
 use Rattle.tape.specs.declared.layout.Layout.{Layout}
-use Rattle.answer.specs.declared.tapes.Accepted.{Accepted}
-use Rattle.answer.specs.declared.tapes.Accepted.TheVariants.{Both, Refused}
 
-abbrev pub after_first : Layout → Opened → Accepted
-after_first d (opened.Tape c) = Both d c
-after_first d (opened.Refused n) = Refused n
+abbrev pub after_first : Layout → Result Layout Fault → Result (Layout × Layout) Fault
+after_first d (Ok c) = Ok (d, c)
+after_first d (Err n) = Err n
 
-abbrev pub on_first : Opened → Opened → Accepted
-on_first (opened.Tape d) second = after_first d second
-on_first (opened.Refused n) second = Refused n
+abbrev pub on_first : Result Layout Fault → Result Layout Fault → Result (Layout × Layout) Fault
+on_first (Ok d) second = after_first d second
+on_first (Err n) second = Err n
 
-unfoldable pub accept_two : List ℕ → ℕ → List ℕ → ℕ → Accepted
+unfoldable pub accept_two : List ℕ → ℕ → List ℕ → ℕ → Result (Layout × Layout) Fault
 accept_two s i t j = on_first (accept_of s i) (accept_of t j)

@@ -17,7 +17,7 @@ use walk_state::writing::Walk;
 
 pub mod tapes;
 
-#[derive(Clone, Copy)]
+#[derive(Clone, Copy, Debug, PartialEq, Eq)]
 pub struct Answer {
     pub number: u32,
     pub span: Span,
@@ -25,27 +25,16 @@ pub struct Answer {
     pub charged: u32,
 }
 
-// What the check and the registry find: nothing to refuse, or the first refusal.
-#[derive(Clone, Copy)]
-pub enum Verdict {
-    Passes,
-    Refused(Refused),
-}
-
 // Whether the three buffers are as long as document 01 asks.
+#[tactic(auto, unfolding(definition::specs::Answers::long_buffers))]
 pub fn long_buffers(res: usize, work: usize, message: usize) -> bool
     ensures { result ≡ long_buffers (buffers res work message) }
 {
-    if res < 12296 {
-        return false;
-    }
-    if work < 65536 {
-        return false;
-    }
-    2048 <= message
+    12296 <= res && 65536 <= work && 2048 <= message
 }
 
 // A number with the span 0..0 and no message, zeros in every buffer: success, and what comes before a walk.
+#[tactic(auto, unfolding(crate::specs::Matches::ended, definition::specs::Answers::open_answers, definition::specs::Outcome::open_outcome))]
 pub fn number_alone(
     number: u32,
     charged: u32,
@@ -94,6 +83,7 @@ pub fn refuse(
 }
 
 // A refusal that comes before a walk, of an operation that has a message buffer alone.
+#[tactic(auto, using(crate::proofs::Ends::message_alone_lem), unfolding(definition::specs::Answers::number_alone))]
 pub fn refuse_number(number: u32, message: &mut [u8]) -> Answer
     ensures { answer_with result [] [] message.new ≡ ended (message_alone (length message.old)) (number_alone number) }
 {
@@ -101,6 +91,7 @@ pub fn refuse_number(number: u32, message: &mut [u8]) -> Answer
 }
 
 // The same of one that has a result buffer alone.
+#[tactic(auto, using(crate::proofs::Ends::result_alone_lem), unfolding(definition::specs::Answers::number_alone))]
 pub fn refuse_result(number: u32, res: &mut [u8]) -> Answer
     ensures { answer_with result res.new [] [] ≡ ended (result_alone (length res.old)) (number_alone number) }
 {
@@ -108,6 +99,7 @@ pub fn refuse_result(number: u32, res: &mut [u8]) -> Answer
 }
 
 // Success of such an operation, which has written its result and charges nothing.
+#[tactic(auto, using(crate::proofs::Ends::no_buffers_lem), unfolding(definition::specs::Answers::number_alone))]
 pub fn result_written() -> Answer
     ensures { answer_with result [] [] [] ≡ ended (result_alone 0) (number_alone 0) }
 {
@@ -115,12 +107,17 @@ pub fn result_written() -> Answer
 }
 
 // The answer of a verdict, of an operation that has one tape and a message buffer alone, and charges nothing.
-pub fn answer_verdict(tape: &[u8], l: Layout, verdict: Verdict, message: &mut [u8]) -> Answer
+pub fn answer_verdict(
+    tape: &[u8],
+    l: Layout,
+    verdict: Result<(), Refused>,
+    message: &mut [u8],
+) -> Answer
     ensures { AnswersVerdict tape.now l verdict (message_alone (length message.old)) (answer_with result [] [] message.new) }
 {
     match verdict {
-        Verdict::Passes => number_alone(0, 0, &mut [], &mut [], message),
-        Verdict::Refused(r) => refuse(tape, l, tape, l, r, 0, &mut [], &mut [], message),
+        Ok(()) => number_alone(0, 0, &mut [], &mut [], message),
+        Err(r) => refuse(tape, l, tape, l, r, 0, &mut [], &mut [], message),
     }
 }
 

@@ -7,7 +7,7 @@ use Rattle.format.proofs.Encodes.{length_le}
 use Rattle.definition.specs.Text.{utf8, utf8_char, decimal}
 use Rattle.definition.specs.Substitute.{start_name, in_file, generated}
 use Rattle.definition.proofs.Decimal.{decimal_length}
-use Rattle.buffer.specs.Buffer.{Message, message_in, write_in, Written}
+use Rattle.buffer.specs.Buffer.{Message, message_in, write_in}
 use Rattle.buffer.proofs.Messages.{write_append}
 use Rattle.area.specs.Area.{Area, area_in, text_end, RoomFor, grown, headed, overflow_in, grow_in, put_text_in}
 use Rattle.area.proofs.Room.{append_room, append_full}
@@ -42,36 +42,39 @@ length_generated name start (suc f) =
 
 -- ------------------------------------------------------------------ the writes
 
-module _ (s s₁ s₂ : List ℕ) (i j : ℕ) (name : Text) (start : ℕ) (p : Written s s₁ i name)
-    (q : message_in s₂ j ≡ write_in (36 ∷ decimal start) (message_in s₁ i))
-  where
-    named : Written s s₂ j (start_name name start)
-    unfolding start_name utf8 utf8_char
-    named = q ∙ rw p (write_append name (36 ∷ decimal start) (message_in s 0))
+module _ (s name : List ℕ) (start file : ℕ) where
+  abbrev named : Message
+  named = write_in (36 ∷ decimal start) (write_in name (message_in s 0))
 
-    pub file_0_written : (file : ℕ) → file ≤ 0 → s₂ ≡ sets s 0 (generated name start file)
-    unfolding write_in generated in_file
-    file_0_written file h = let e : file ≡ 0 = omega arith in rw e (ap (λ (m : Message). m.bytes) named)
+  name_written : named ≡ write_in (start_name name start) (message_in s 0)
+  unfolding start_name utf8 utf8_char
+  name_written = write_append name (36 ∷ decimal start) (message_in s 0)
 
-    module _ (s₃ : List ℕ) (k file : ℕ) (h : 0 < file) (r : message_in s₃ k ≡ write_in (35 ∷ decimal file) (message_in s₂ j)) where
-      in_file_named : Written s s₃ k (in_file file (start_name name start))
-      in_file_named =
-          r
-          ∙ rw (named, in_file_lem (start_name name start) file h) (write_append (start_name name start) (35 ∷ decimal file) (message_in s 0))
+  pub file_0_written : file ≤ 0 → sets s 0 (generated name start file) ≡ named.bytes
+  unfolding write_in generated in_file
+  file_0_written h =
+      let e : file ≡ 0 = omega arith in
+      rw e (ap (λ (m : Message). m.bytes) (sym name_written))
 
-      pub in_file_written : s₃ ≡ sets s 0 (generated name start file)
-      unfolding write_in generated
-      in_file_written = ap (λ (m : Message). m.bytes) in_file_named
+  in_file_named : 0 < file
+      → write_in (35 ∷ decimal file) named ≡ write_in (in_file file (start_name name start)) (message_in s 0)
+  in_file_named h =
+      rw (name_written, in_file_lem (start_name name start) file h)
+      (write_append (start_name name start) (35 ∷ decimal file) (message_in s 0))
+
+  pub in_file_written : 0 < file → sets s 0 (generated name start file) ≡ (write_in (35 ∷ decimal file) named).bytes
+  unfolding write_in generated
+  in_file_written h = ap (λ (m : Message). m.bytes) (sym (in_file_named h))
 
 -- ------------------------------------------------------------------ the entry
 
 module _ (code : ℕ) (text : Text) (P : Area) where
   pub put_text_room : RoomFor (length P.bytes) P.out 1 (length text)
-      → area_in (grown P.out 1 (length text))
+      → put_text_in code text P
+      ≡ area_in (grown P.out 1 (length text))
       (headed (sets P.bytes (text_end P.out) text) P.out (code ∷ []) (le 8 (length text)))
-      ≡ put_text_in code text P
   unfolding put_text_in grow_in
-  put_text_room room = sym (append_room (code ∷ []) (le 8 (length text)) text P (room, length_le 8 (length text)))
+  put_text_room room = append_room (code ∷ []) (le 8 (length text)) text P (room, length_le 8 (length text))
 
   pub put_text_full : (RoomFor (length P.bytes) P.out 1 (length text) → ⊥) → overflow_in P ≡ put_text_in code text P
   unfolding put_text_in

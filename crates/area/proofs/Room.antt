@@ -53,7 +53,7 @@ module _ (codes values text : List ℕ) (P : Area) where
 -- ------------------------------------------------------------------ all of another area
 
 module _ (Q P : Area) where
-  pub append_out_whole : RoomFor (length Q.bytes) Q.out 0 0 → append_in (codes_in Q) (values_in Q) (text_in Q) P ≡ append_out_in Q P
+  pub append_out_whole : RoomFor (length Q.bytes) Q.out 0 0 → append_out_in Q P ≡ append_in (codes_in Q) (values_in Q) (text_in Q) P
   unfolding append_out_in
   append_out_whole room = rw (true_of (room_decides (length Q.bytes) Q.out 0 0) room, append_out_in) refl
 

@@ -16,7 +16,7 @@ ghost use Rattle.buffer.specs.Buffer.{Decides, message_in, write_in};
 ghost use Rattle.area.specs.Area.{area_in, empty_at, overflow_of, grown, headed, RoomFor, append_in, put_in, put_text_in, append_out_in, patch_in, finished_in};
 
 // A writer's state: its area's base, how many entries and text bytes stand there, and whether they were too many.
-#[derive(Clone, Copy)]
+#[derive(Clone, Copy, Debug, PartialEq, Eq)]
 pub struct Writer {
     pub base: usize,
     pub n: usize,
@@ -41,10 +41,8 @@ fn overflow(out: Writer) -> Writer
     ensures { result ≡ overflow_of out }
 {
     Writer {
-        base: out.base,
-        n: out.n,
-        t: out.t,
         overflowed: true,
+        ..out
     }
 }
 
@@ -52,35 +50,19 @@ fn overflow(out: Writer) -> Writer
 fn has_area(size: usize, base: usize) -> bool
     ensures { Decides (base + 12288 ≤ size) result }
 {
-    if size < 12288 {
-        return false;
-    }
-    base <= size - 12288
+    12288 <= size && base <= size - 12288
 }
 
 // Whether the area stands within `size` bytes, and has room for `entries` more entries with `bytes` bytes of text.
 fn has_room(size: usize, out: Writer, entries: usize, bytes: usize) -> bool
     ensures { Decides (RoomFor size out entries bytes) result }
 {
-    let base = out.base;
-    let n = out.n;
-    let t = out.t;
-    if out.overflowed {
-        return false;
-    }
-    if n > 1024 {
-        return false;
-    }
-    if entries > 1024 - n {
-        return false;
-    }
-    if t > 3072 {
-        return false;
-    }
-    if bytes > 3072 - t {
-        return false;
-    }
-    has_area(size, base)
+    !out.overflowed
+        && out.n <= 1024
+        && entries <= 1024 - out.n
+        && out.t <= 3072
+        && bytes <= 3072 - out.t
+        && has_area(size, out.base)
 }
 
 // Writes the codes and values of entries whose text, of `bytes` bytes, stands there already.
@@ -101,6 +83,7 @@ fn write_heads(s: &mut [u8], out: Writer, codes: &[u8], values: &[u8], bytes: us
 }
 
 // Writes a run for which there is room.
+#[tactic(auto, using(crate::proofs::Room::append_room), unfolding(crate::specs::Area::grow_in))]
 fn write_run(s: &mut [u8], out: Writer, codes: &[u8], values: &[u8], text: &[u8]) -> Writer
     requires { RoomFor (length s.old) out (length codes.now) (length text.now) × (length values.now ≡ 8 * length codes.now) }
     ensures { area_in result s.new ≡ append_in codes.now values.now text.now (area_in out s.old) }
@@ -113,13 +96,11 @@ fn write_run(s: &mut [u8], out: Writer, codes: &[u8], values: &[u8], text: &[u8]
 fn has_run_room(size: usize, out: Writer, codes: usize, values: usize, text: usize) -> bool
     ensures { Decides (RoomFor size out codes text × (values ≡ 8 * codes)) result }
 {
-    if has_room(size, out, codes, text) {
-        return values == 8 * codes;
-    }
-    false
+    has_room(size, out, codes, text) && values == 8 * codes
 }
 
 // Appends a run of entries, given as the three parts of a tape that spell it.
+#[tactic(auto, using(crate::proofs::Room::append_full), unfolding(crate::specs::Area::overflow_in))]
 pub fn append_run(s: &mut [u8], out: Writer, codes: &[u8], values: &[u8], text: &[u8]) -> Writer
     ensures { area_in result s.new ≡ append_in codes.now values.now text.now (area_in out s.old) }
 {
@@ -131,6 +112,7 @@ pub fn append_run(s: &mut [u8], out: Writer, codes: &[u8], values: &[u8], text: 
 }
 
 // Appends an entry without text.
+#[tactic(auto, unfolding(crate::specs::Area::put_in))]
 pub fn put(s: &mut [u8], out: Writer, code: u8, value: u64) -> Writer
     ensures { area_in result s.new ≡ put_in code value (area_in out s.old) }
 {
@@ -138,6 +120,7 @@ pub fn put(s: &mut [u8], out: Writer, code: u8, value: u64) -> Writer
 }
 
 // Appends an entry with text; its value is the text's length.
+#[tactic(auto, unfolding(crate::specs::Area::put_text_in))]
 pub fn put_text(s: &mut [u8], out: Writer, code: u8, text: &[u8]) -> Writer
     ensures { area_in result s.new ≡ put_text_in code text.now (area_in out s.old) }
 {
@@ -151,6 +134,7 @@ pub fn put_text(s: &mut [u8], out: Writer, code: u8, text: &[u8]) -> Writer
 }
 
 // How many bytes a generated name has for its file: none in file 0.
+#[tactic(auto, using(crate::proofs::Generated::length_in_file, crate::proofs::Generated::length_file_0, buffer::proofs::Decimals::at_most_10_digits))]
 fn file_length(file: u16) -> usize
     ensures { result ≡ length (in_file file []) }
 {
@@ -161,6 +145,7 @@ fn file_length(file: u16) -> usize
 }
 
 // How many bytes a generated name has.
+#[tactic(auto, using(crate::proofs::Generated::length_generated, crate::proofs::Generated::file_short, buffer::proofs::Decimals::at_most_10_digits))]
 fn generated_length(name: &[u8], start: u32, file: u16) -> usize
     ensures { result ≡ length (generated name.now start file) }
 {
@@ -169,6 +154,7 @@ fn generated_length(name: &[u8], start: u32, file: u16) -> usize
 
 // Writes a mark at `at` and a number in decimal into the part of `text` behind it, as far as `text` reaches, and answers where
 // the number ends.
+#[tactic(auto, using(buffer::proofs::Messages::write_append))]
 fn write_marked(text: &mut [u8], at: usize, mark: &[u8], number: u32) -> usize
     ensures { message_in text.new result ≡ write_in (mark.now ++ decimal number) (message_in text.old at) }
 {
@@ -177,6 +163,7 @@ fn write_marked(text: &mut [u8], at: usize, mark: &[u8], number: u32) -> usize
 }
 
 // Writes `name`, `$`, `start` and, in a file above 0, `#` and `file` at the front of `text`, as far as it reaches.
+#[tactic(auto, using(crate::proofs::Generated::file_0_written, crate::proofs::Generated::in_file_written))]
 fn write_generated(text: &mut [u8], name: &[u8], start: u32, file: u16)
     ensures { text.new ≡ sets text.old 0 (generated name.now start file) }
 {
@@ -188,6 +175,7 @@ fn write_generated(text: &mut [u8], name: &[u8], start: u32, file: u16)
 }
 
 // Appends an entry with a generated name of `bytes` bytes, for which there is room.
+#[tactic(auto, using(crate::proofs::Generated::put_text_room, buffer::proofs::Lent::sets_lent_to))]
 fn generate(
     s: &mut [u8],
     out: Writer,
@@ -207,6 +195,7 @@ fn generate(
 }
 
 // Appends an entry whose text is the name that a binder gets in the call at `start` of a file.
+#[tactic(auto, using(crate::proofs::Generated::put_text_full), unfolding(crate::specs::Area::overflow_in))]
 pub fn put_generated(
     s: &mut [u8],
     out: Writer,
@@ -225,24 +214,32 @@ pub fn put_generated(
     }
 }
 
+// The `count` bytes of `s` from `from` on.
+fn section(s: &[u8], from: usize, count: usize) -> &[u8]
+    requires { from + count ≤ length s.now }
+    ensures { result.now ≡ part s.now from count }
+{
+    &s[from..from + count]
+}
+
 // Appends all that an area holds, one of another slice.
+#[tactic(auto, using(crate::proofs::Room::append_out_whole))]
 fn append_whole(s: &mut [u8], out: Writer, from: &[u8], other: Writer) -> Writer
     requires { RoomFor (length from.now) other 0 0 }
     ensures { area_in result s.new ≡ append_out_in (area_in other from.now) (area_in out s.old) }
 {
-    let codes = other.base;
-    let values = codes + 1024;
-    let text = codes + 9216;
+    let base = other.base;
     append_run(
         s,
         out,
-        &from[codes..codes + other.n],
-        &from[values..values + 8 * other.n],
-        &from[text..text + other.t],
+        section(from, base, other.n),
+        section(from, base + 1024, 8 * other.n),
+        section(from, base + 9216, other.t),
     )
 }
 
 // Appends all that was written to another area, one of another slice.
+#[tactic(auto, using(crate::proofs::Room::append_out_none), unfolding(crate::specs::Area::overflow_in))]
 pub fn append_out(s: &mut [u8], out: Writer, from: &[u8], other: Writer) -> Writer
     ensures { area_in result s.new ≡ append_out_in (area_in other from.now) (area_in out s.old) }
 {
@@ -254,23 +251,23 @@ pub fn append_out(s: &mut [u8], out: Writer, from: &[u8], other: Writer) -> Writ
 }
 
 // Adds to the value of an entry that the area holds.
+#[tactic(auto, using(crate::proofs::Patch::patch_there))]
 fn add_value(s: &mut [u8], out: Writer, index: usize, added: u64)
     requires { RoomFor (length s.old) out 0 0 × (index < out.n) }
     ensures { area_in out s.new ≡ patch_in index added (area_in out s.old) }
 {
     let at = out.base + 1024 + 8 * index;
-    let value = std::num::wrapping_add_u64(buffer::read_value(s, at), added);
+    let value = buffer::read_value(s, at).wrapping_add(added);
     buffer::write(s, at, &buffer::value_bytes(value));
 }
 
 // Adds to the value of the entry at `index`: a list's count, when items are put behind it.
+#[tactic(auto, using(crate::proofs::Patch::patch_none))]
 pub fn patch_count(s: &mut [u8], out: Writer, index: usize, added: u64)
     ensures { area_in out s.new ≡ patch_in index added (area_in out s.old) }
 {
-    if index < out.n {
-        if has_room(s.len(), out, 0, 0) {
-            add_value(s, out, index, added);
-        }
+    if index < out.n && has_room(s.len(), out, 0, 0) {
+        add_value(s, out, index, added);
     }
 }
 
@@ -282,15 +279,8 @@ fn write_sizes(res: &mut [u8], n: usize, t: usize)
     buffer::write_size(res, 4, t);
 }
 
-// Writes `count` bytes of `s`, from `from` on, into `result` at `at`.
-fn write_section(res: &mut [u8], at: usize, s: &[u8], from: usize, count: usize)
-    requires { from + count ≤ length s.now }
-    ensures { res.new ≡ sets res.old at (part s.now from count) }
-{
-    buffer::write(res, at, &s[from..from + count]);
-}
-
 // Writes the tape of what an area holds, and zeros behind it.
+#[tactic(auto, using(crate::proofs::Tape::tape_written))]
 fn write_tape(s: &[u8], out: Writer, res: &mut [u8])
     requires { RoomFor (length s.now) out 0 0 }
     ensures { res.new ≡ finished_in (area_in out s.now) res.old }
@@ -299,13 +289,14 @@ fn write_tape(s: &[u8], out: Writer, res: &mut [u8])
     let n = out.n;
     let t = out.t;
     write_sizes(res, n, t);
-    write_section(res, 8, s, base, n);
-    write_section(res, 8 + n, s, base + 1024, 8 * n);
-    write_section(res, 8 + 9 * n, s, base + 9216, t);
+    buffer::write(res, 8, section(s, base, n));
+    buffer::write(res, 8 + n, section(s, base + 1024, 8 * n));
+    buffer::write(res, 8 + 9 * n, section(s, base + 9216, t));
     buffer::zero_from(res, 8 + 9 * n + t);
 }
 
 // Writes the tape of the entries, and zeros behind it; zeros alone where they were too many.
+#[tactic(auto, using(crate::proofs::Tape::none_written))]
 pub fn finish(s: &[u8], out: Writer, res: &mut [u8])
     ensures { res.new ≡ finished_in (area_in out s.now) res.old }
 {

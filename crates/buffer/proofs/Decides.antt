@@ -21,9 +21,6 @@ le_or a b t f = cases (leb a b) (λ e. t (leb-true a b e)) (λ e. f (leb-false a
 pub refuted : {P : Type 0} → (P → ⊥) → Decides P false
 refuted h = record { holds = λ e. absurd (both e refl); fails = λ _. h }
 
-pub proved : {P : Type 0} → P → Decides P true
-proved h = record { holds = λ _. h; fails = λ e. absurd (both refl e) }
-
 -- the test has the value that it has to have
 pub true_of : {P : Type 0} {r : Bool} → Decides P r → P → r ≡ true
 true_of {P} {r} d p = cases r (λ e. e) (λ e. absurd (d.fails e p))

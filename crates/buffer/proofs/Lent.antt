@@ -24,8 +24,13 @@ module _ (s : List ℕ) (a k : ℕ) (xs : List ℕ) (h : a + k ≤ length s) whe
       ∙ ap (λ (l : List ℕ). sets l a xs) whole
 
   -- a part that they fit into
-  pub sets_lent : length xs ≤ k → put_mid a k s (sets (part s a k) 0 xs) ≡ sets s a xs
+  sets_lent : length xs ≤ k → put_mid a k s (sets (part s a k) 0 xs) ≡ sets s a xs
   sets_lent f = lent (sets_front (part s a k) (post_of a k s) 0 xs (omega (arith, length_part s a k h)))
+
+-- one that ends at b, where they do
+pub sets_lent_to : (s : List ℕ) (a b : ℕ) (xs : List ℕ) → b ≡ a + length xs → b ≤ length s
+    → put_mid a (b - a) s (sets (part s a (b - a)) 0 xs) ≡ sets s a xs
+sets_lent_to s a b xs e h = sets_lent s a (b - a) xs (omega arith) (omega arith)
 
 -- the part from a to the end
 pub sets_lent_rest : (s : List ℕ) (a : ℕ) (xs : List ℕ) → a ≤ length s

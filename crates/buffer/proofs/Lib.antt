@@ -1,9 +1,10 @@
 -- Laws of bytes in buffers, for the proofs here and above.
 -- Assumes nothing.
 pub mod Decides
-mod Numbers
+pub mod Numbers
 pub mod Sets
 pub mod Kept
 pub mod Zeros
 pub mod Messages
 pub mod Lent
+pub mod Decimals

@@ -2,15 +2,12 @@
 -- Assumes nothing.
 use mathlib.Core.Path.{◌≡◌, refl, sym, ap, ◌∙◌}
 use mathlib.Core.List.{List, [], ◌∷◌, ◌++◌}
-use mathlib.Core.Bool.{Bool, true, false}
-use Prim.Native.Nat.{ℕ, suc, ◌+◌, ◌-◌, ◌≤◌, ◌<◌, min}
+use Prim.Native.Nat.{ℕ, suc, ◌+◌, ◌-◌, ◌≤◌, min}
 use native.Mathlib.Nat.{zero-add, add-zero, add-suc, suc-add}
 use native.Mathlib.Omega.{arith}
-use native.Mathlib.Numerals.{add-one}
-use borrow.Author.Tests.{leb-true, leb-false}
-use lib.Dec.{leb}
-use lib.ListN.{length, take, drop, set, get_or, length-set, drop_of_length-le}
-use lib.Seq.{sets, set_out, set-append_left, drop-cons, take-set-le, drop-set-lt}
+use lib.ListN.{length, take, drop, set, length-set, drop_of_length-le}
+use lib.Seq.{sets, set_out, set-append_left, take-set-le, drop-set-lt}
+use Rattle.buffer.proofs.Decides.{le_or}
 
 -- stores past the end change nothing
 pub sets_out : (l : List ℕ) (i : ℕ) (vs : List ℕ) → length l ≤ i → sets l i vs ≡ l
@@ -51,18 +48,11 @@ sets_front p q i [] h = refl
 sets_front p q i (v ∷ vs) h =
     rw (set-append_left p q i v (omega arith)) (sets_front (set p i v) q (suc i) vs (omega (arith, length-set p i v)))
 
--- a loop that stores vs from i on, element j next: a turn of it, and its end
-pub sets_turn : (s : List ℕ) (i : ℕ) (vs : List ℕ) (j : ℕ) → j < length vs
-    → sets (set s i (get_or vs j 0)) (i + 1) (drop (j + 1) vs) ≡ sets s i (drop j vs)
-sets_turn s i vs j h = rw (add-one, add-one, drop-cons vs j 0)
-
-pub sets_end : (s : List ℕ) (i : ℕ) (vs : List ℕ) (j : ℕ) → length vs ≤ j → sets s i (drop j vs) ≡ s
+-- a loop that stores vs from i on, element j next: it ends where vs does, or s
+sets_end : (s : List ℕ) (i : ℕ) (vs : List ℕ) (j : ℕ) → length vs ≤ j → sets s i (drop j vs) ≡ s
 sets_end s i vs j h = rw (drop_of_length-le vs h)
 
--- it ends where vs does, or s
 pub sets_stop : (s : List ℕ) (at : ℕ) (vs : List ℕ) (j : ℕ) → min (length s - at) (length vs) ≤ j → sets s (at + j) (drop j vs) ≡ s
-sets_stop s at vs j h = go (leb (length vs) j) refl
-  where
-    go : (b : Bool) → leb (length vs) j ≡ b → sets s (at + j) (drop j vs) ≡ s
-    go true e = sets_end s (at + j) vs j (leb-true (length vs) j e)
-    go false e = sets_out s (at + j) (drop j vs) (omega (arith, h, leb-false (length vs) j e))
+sets_stop s at vs j h = le_or (length vs) j
+    (λ e. sets_end s (at + j) vs j e)
+    (λ e. sets_out s (at + j) (drop j vs) (omega (arith, h, e)))

@@ -1,5 +1,7 @@
 -- Where a definition stands, its check finds what the check of the definition says.
 -- Assumes nothing.
+use Rattle.messages.specs.declared.Refused.{Refused}
+use Rattle.std.proofs.Common.{Some, Result}
 use Prim.Native.Nat.{ℕ, ◌≤◌}
 use mathlib.Core.Path.{◌≡◌, refl, ◌∙◌}
 use mathlib.Core.List.{List, [], ◌∷◌}
@@ -16,11 +18,9 @@ use Rattle.tape.specs.declared.layout.Place.{Place}
 use Rattle.tape.proofs.Located.{past, Inside}
 use Rattle.nodes.proofs.Placed.{ParamParts, parts_params, past_params, parts_body, parts_def}
 use Rattle.message_parts.specs.Names.{names_at}
-use Rattle.nodes.specs.declared.ParamRead.TheVariants.{Param}
 use Rattle.check_parts.specs.declared.Declared.{Declared}
 use Rattle.check_parts.specs.Names.{declared_in}
 use Rattle.answer.specs.Matches.{VerdictMatches}
-use Rattle.walk_state.specs.declared.reading.Checked.{Checked}
 use Rattle.check_body.specs.Definition.{declaring, body_in, on_body, def_in, verdict_of}
 use Rattle.check_parts.proofs.Steps.{one_name}
 use Rattle.check_walk.proofs.Right.{Finds, passes, refuses, ending, right}
@@ -28,7 +28,7 @@ use Rattle.check_walk.proofs.Right.{Finds, passes, refuses, ending, right}
 -- the names of the parameters
 module _ {s : List ℕ} {l : Layout} where
   param_read : {q : MacroParam} {es : List Entry} {p end : Place} (i : ParamParts s l p q es end)
-      → Param (named (past (entry 42 q.span ∷ []) p) (length q.name)) (past (text_entry 40 q.name ∷ []) (past (entry 42 q.span ∷ []) p)) ≡ param_at s l p
+      → Some (named (past (entry 42 q.span ∷ []) p) (length q.name), past (text_entry 40 q.name ∷ []) (past (entry 42 q.span ∷ []) p)) ≡ param_at s l p
   unfolding param_at
   param_read i = rw (i.span, i.name.read)
 
@@ -61,7 +61,7 @@ def_right {s} {l} def h m =
     (ending runs.ends
     (body_right s (declaring l _ (length def.params)) def.params (names_right def.params runs.first) def.body _ runs.second m))
 
-verdict_matches : {s : List ℕ} {l : Layout} {x : Checked} {end : Place} {v : Verdict} → Finds s l x end v → VerdictMatches s l (verdict_of x) v
+verdict_matches : {s : List ℕ} {l : Layout} {x : Result Place Refused} {end : Place} {v : Verdict} → Finds s l x end v → VerdictMatches s l (verdict_of x) v
 unfolding VerdictMatches
 verdict_matches (passes e) = rw e tt
 verdict_matches (refuses e same) = rw e same

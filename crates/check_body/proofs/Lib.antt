@@ -1,4 +1,3 @@
--- The laws that several proofs of the crate cite.
-mod Steps
+-- What the crates above cite, and the laws of the operation.
 pub mod Definitions
-mod Operation
+pub mod Operation

@@ -1,18 +1,14 @@
 -- The check of the definition that stands at a place of a tape.
 -- Assumes nothing.
-use Rattle.std.specs.Prelude.{ℕ, List}
+use Rattle.nodes.specs.declared.Refusal.{Refusal}
+use Rattle.messages.specs.declared.Refused.{Refused}
+use Rattle.std.specs.Prelude.{ℕ, List, Result, Ok, Err}
 use Rattle.nodes.specs.Node.{on_place, on_heading, heading_at, past_params_at, body_at}
 use Rattle.tape.specs.declared.layout.Layout.{Layout}
 use Rattle.tape.specs.declared.layout.Place.{Place}
 use Rattle.nodes.specs.declared.BodyNode.{BodyNode}
 use Rattle.nodes.specs.declared.BodyNode.TheVariants as body
-use Rattle.nodes.specs.declared.BodyRead.{BodyRead}
-use Rattle.nodes.specs.declared.BodyRead.TheVariants as br
-use Rattle.answer.specs.declared.Verdict.{Verdict}
-use Rattle.answer.specs.declared.Verdict.TheVariants as verdict
 use Rattle.check_parts.specs.declared.Declared.{Declared}
-use Rattle.walk_state.specs.declared.reading.Checked.{Checked}
-use Rattle.walk_state.specs.declared.reading.Checked.TheVariants.{Passed, Refused}
 use Rattle.walk_state.specs.Reading.{without_message_of, malformed_in}
 use Rattle.check_walk.specs.Walk.{walkers}
 
@@ -21,16 +17,16 @@ declaring l params count = record { layout = l; params = params; count = count }
 
 module _ (s : List ℕ) where
   -- a Cedar body passes unread; a value body's terms have the span 0..0
-  unfoldable pub body_in : Declared → BodyNode → Place → Checked
-  body_in d body.Cedar next = Passed next
-  body_in d body.Condition next = (walkers s d 64).condition (Passed next)
-  body_in d body.Value next = (walkers s d 64).term 0 (Passed next)
+  unfoldable pub body_in : Declared → BodyNode → Place → Result Place Refused
+  body_in d body.Cedar next = Ok next
+  body_in d body.Condition next = (walkers s d 64).condition (Ok next)
+  body_in d body.Value next = (walkers s d 64).term 0 (Ok next)
 
-  abbrev pub on_body : Declared → BodyRead → Checked
-  on_body d (br.Node node next) = body_in d node next
-  on_body d (br.Refused f) = without_message_of f
+  abbrev pub on_body : Declared → Result (BodyNode × Place) Refusal → Result Place Refused
+  on_body d (Ok (node, next)) = body_in d node next
+  on_body d (Err f) = without_message_of f
 
-  unfoldable pub def_in : Layout → Place → Checked
+  unfoldable pub def_in : Layout → Place → Result Place Refused
   def_in l p =
       on_heading malformed_in
       (λ heading params.
@@ -38,6 +34,6 @@ module _ (s : List ℕ) where
       (past_params_at s l params heading.count))
       (heading_at s l p 60)
 
-abbrev pub verdict_of : Checked → Verdict
-verdict_of (Passed p) = verdict.Passes
-verdict_of (Refused r) = verdict.Refused r
+abbrev pub verdict_of : Result Place Refused → Result Unit Refused
+verdict_of (Ok p) = (Ok tt)
+verdict_of (Err r) = Err r

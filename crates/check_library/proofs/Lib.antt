@@ -1,6 +1,6 @@
 -- The theorem first, then the laws that several proofs of the crate cite.
 pub mod Returned
-mod Steps
+pub mod Steps
 mod AsGiven
 mod Standing
-mod Operation
+pub mod Operation

@@ -1,6 +1,7 @@
 -- Where a registry stands, the list of the places' verdicts is the definitions' list, and the verdict at an index is the check of the
 -- definition there.
 -- Assumes nothing.
+use Rattle.std.proofs.Common.{Result, Ok, Err}
 use Prim.Native.Nat.{ℕ, zero, suc, ◌+◌, ◌*◌, min, ◌≤◌}
 use native.Mathlib.Omega.{arith}
 use mathlib.Core.Path.{◌≡◌, refl, ap, ◌∙◌}
@@ -27,8 +28,6 @@ use Rattle.tape.specs.Pick.{pick}
 use Rattle.tape.specs.declared.layout.Layout.{Layout}
 use Rattle.messages.specs.declared.Refused as code
 use Rattle.answer.specs.Matches.{RefusalMatches, VerdictMatches}
-use Rattle.answer.specs.declared.Verdict.{Verdict}
-use Rattle.answer.specs.declared.Verdict.TheVariants.{Passes, Refused}
 use Rattle.registry.specs.Places.{Row, and_then_in, origin, rows_from, index_at, build_at}
 use Rattle.registry.proofs.Standing.{Indexed, indexed_nil, indexed_cons}
 use Rattle.registry.proofs.Verdicts.{build_matches}
@@ -39,13 +38,13 @@ use Rattle.check_library.proofs.AsGiven.{library_of, check_of}
 
 -- ------------------------------------------------------------------ one definition
 
-both_match : (s : List ℕ) (l : Layout) (v v' : Verdict) (w w' : definition.Verdict) → VerdictMatches s l v w → VerdictMatches s l v' w'
+both_match : (s : List ℕ) (l : Layout) (v v' : Result Unit code.Refused) (w w' : definition.Verdict) → VerdictMatches s l v w → VerdictMatches s l v' w'
     → VerdictMatches s l (and_then_in v v') (w and_then w')
 unfolding VerdictMatches ◌and_then◌
-both_match s l Passes v' none w' h k = k
-both_match s l Passes v' (some r) w' h k = absurd h
-both_match s l (Refused f) v' none w' h k = absurd h
-both_match s l (Refused f) v' (some r) w' h k = h
+both_match s l (Ok tt) v' none w' h k = k
+both_match s l (Ok tt) v' (some r) w' h k = absurd h
+both_match s l (Err f) v' none w' h k = absurd h
+both_match s l (Err f) v' (some r) w' h k = h
 
 module _ {s : List ℕ} {l : Layout} where
   found_matches : {rs : List Row} {ds : List MacroDef} → Indexed s l rs ds → deep_bodies node_weight ds ≤ 64 → (i : ℕ)
@@ -90,13 +89,13 @@ module _ {s : List ℕ} {l : Layout} where
   put_right (indexed_cons {r = r} {rs = rs} {d = d} {ds = ds} at k more) deep i m h =
       go (verdict_of (def_in s l r.place)) (check_def d) (def_matches d at (omega arith)) (put_right more (omega arith) (suc i))
     where
-      go : (v : Verdict) (w : definition.Verdict) → VerdictMatches s l v w
+      go : (v : Result Unit code.Refused) (w : definition.Verdict) → VerdictMatches s l v w
           → ((m : Message) → Ends m → put_from s l (suc i) rs m ≡ write_in (list_bytes (refused_from (suc i) ds)) m)
           → put_from s l (suc i) rs (put_in i v m) ≡ write_in (list_bytes (in_front i w (refused_from (suc i) ds))) m
-      go Passes none match rest = rest m h
-      go Passes (some x) match rest = absurd match
-      go (Refused f) none match rest = absurd match
-      go (Refused f) (some x) match rest =
+      go (Ok tt) none match rest = rest m h
+      go (Ok tt) (some x) match rest = absurd match
+      go (Err f) none match rest = absurd match
+      go (Err f) (some x) match rest =
           let tail : List ℕ = list_bytes (refused_from (suc i) ds) in
           rest (write_in (row_of i f) m) (write_ends (row_of i f) m)
           ∙ write_append (row_of i f) tail m
@@ -139,9 +138,9 @@ module _ {s : List ℕ} {l : Layout} {ds : List MacroDef} (h : Indexed s l (inde
   unfolding listed_in library_of VerdictMatches ListMatches unless
   list_matches room = go (build_at s l (index_at s l 255)) (build ds) (build_matches h)
     where
-      go : (v : Verdict) (w : definition.Verdict) → VerdictMatches s l v w
+      go : (v : Result Unit code.Refused) (w : definition.Verdict) → VerdictMatches s l v w
           → let x : Listing = on_names put list v in ListMatches s l x.verdict x.bytes (length list) (unless w (pure (refused_of ds)) 0)
-      go Passes none match = (refl, list_zeroed room)
-      go Passes (some r) match = absurd match
-      go (Refused f) none match = absurd match
-      go (Refused f) (some r) match = (refl, match)
+      go (Ok tt) none match = (refl, list_zeroed room)
+      go (Ok tt) (some r) match = absurd match
+      go (Err f) none match = absurd match
+      go (Err f) (some r) match = (refl, match)

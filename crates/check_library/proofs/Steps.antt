@@ -1,5 +1,6 @@
 -- One law for each way a function of the crate returns, from what the code learnt to the definition that the contract cites.
 -- Assumes nothing.
+use Rattle.std.proofs.Common.{Result, Ok, Err}
 use Prim.Native.Nat.{ℕ, zero, suc, ◌+◌, ◌*◌, ◌%◌, ◌/◌, ◌≤◌, ◌<◌}
 use native.Mathlib.Omega.{arith}
 use native.Mathlib.Numerals.{add-one}
@@ -17,9 +18,6 @@ use Rattle.tape.specs.Pick.{pick}
 use Rattle.tape.specs.declared.layout.Layout.{Layout}
 use Rattle.messages.specs.Reason.{number_of}
 use Rattle.messages.specs.declared.Refused as code
-use Rattle.answer.specs.declared.Verdict.{Verdict}
-use Rattle.answer.specs.declared.Verdict.TheVariants.{Passes, Refused}
-use Rattle.walk_state.specs.declared.reading.Checked.{Checked}
 use Rattle.registry.specs.Places.{Row, first_row, rows_in, index_at, build_at}
 use Rattle.check_body.specs.Definition.{def_in, verdict_of}
 use Rattle.check_library.specs.Rows.{verdict_at, checked_in, row_of, put_in, listing, put_from, listed_in}
@@ -49,7 +47,7 @@ rows_room table (suc n) = go (leb 2 (length table)) (leb→le 2 (length table)) 
 -- ------------------------------------------------------------------ the check of a row
 
 module _ (s : List ℕ) (l : Layout) where
-  past_rows : (rs : List Row) (i : ℕ) → length rs ≤ i → verdict_at s l rs i ≡ Passes
+  past_rows : (rs : List Row) (i : ℕ) → length rs ≤ i → verdict_at s l rs i ≡ (Ok tt)
   unfolding verdict_at
   past_rows [] i h = refl
   past_rows (r ∷ rs) zero h = absurd (omega arith)
@@ -66,19 +64,19 @@ module _ (s : List ℕ) (l : Layout) where
       (row_found (drop 2 table) n i (omega arith) (omega (arith, length-drop 2 table)))
 
   module _ (table : List ℕ) (count i : ℕ) where
-    pub row_past : count ≤ i → Passes ≡ verdict_at s l (rows_in table count) i
+    pub row_past : count ≤ i → (Ok tt) ≡ verdict_at s l (rows_in table count) i
     row_past h = sym (past_rows (rows_in table count) i (omega (arith, rows_most table count)))
 
-    pub row_short : length table / 2 ≤ i → Passes ≡ verdict_at s l (rows_in table count) i
+    pub row_short : length table / 2 ≤ i → (Ok tt) ≡ verdict_at s l (rows_in table count) i
     row_short h = sym (past_rows (rows_in table count) i (omega (arith, rows_room table count)))
 
-    pub row_checked : {w : Checked} {v : Verdict} → i < count → i < length table / 2
-        → w ≡ def_in s l (record { at = get_or table (2 * i) 0 % 2048; text = get_or table (2 * i + 1) 0 }) → v ≡ verdict_of w
+    pub row_checked : {v : Result Unit code.Refused} → i < count → i < length table / 2
+        → v ≡ verdict_of (def_in s l (record { at = get_or table (2 * i) 0 % 2048; text = get_or table (2 * i + 1) 0 }))
         → v ≡ verdict_at s l (rows_in table count) i
     unfolding first_row
-    row_checked h k e q =
+    row_checked h k q =
         let z : 2 * i + 0 ≡ 2 * i = omega arith in
-        q ∙ ap verdict_of e ∙ sym (row_found table count i h (omega arith) ∙ rw (get_or-drop (2 * i) table 0 0, get_or-drop (2 * i) table 1 0, z) refl)
+        q ∙ sym (row_found table count i h (omega arith) ∙ rw (get_or-drop (2 * i) table 0 0, get_or-drop (2 * i) table 1 0, z) refl)
 
 -- ------------------------------------------------------------------ the list
 
@@ -95,15 +93,6 @@ row_put m i f {number = number} n a b c d =
     d ∙ ap (write_in end) (c ∙ ap (write_in start) (b ∙ ap (write_in (le 4 number)) a)) ∙ both
     ∙ ap (λ (k : ℕ). write_in (le 4 i ++ (le 4 k ++ (start ++ end))) m) n
 
-module _ (i : ℕ) {v : Verdict} (m : Message) where
-  pub not_put : v ≡ Passes → m ≡ put_in i v m
-  unfolding put_in
-  not_put e = rw e
-
-  pub put : {f : code.Refused} {m' : Message} → v ≡ Refused f → m' ≡ write_in (row_of i f) m → m' ≡ put_in i v m
-  unfolding put_in
-  put e h = rw e h
-
 module _ (s : List ℕ) (l : Layout) where
   -- the row at i, and those behind it
   put_next : (rs : List Row) (i k : ℕ) (m : Message)
@@ -114,33 +103,34 @@ module _ (s : List ℕ) (l : Layout) where
   put_next (r ∷ rs) zero k m = refl
   put_next (r ∷ rs) (suc i) k m = put_next rs i k m
 
-  pub put_turn : (rs : List Row) (i : ℕ) (m : Message) {m' whole : Message} {v : Verdict} → put_from s l i (drop i rs) m ≡ whole → v ≡ verdict_at s l rs i
-      → m' ≡ put_in i v m → put_from s l (i + 1) (drop (i + 1) rs) m' ≡ whole
-  put_turn rs i m inv e h = rw (add-one, h, e) (put_next rs i i m ∙ inv)
+  module _ (table : List ℕ) (count i : ℕ) (first m : Message)
+      (inv : put_from s l i (drop i (rows_in table count)) m ≡ put_from s l 0 (rows_in table count) first) where
+    pub put_turn : {m' : Message} {v : Result Unit code.Refused} → v ≡ verdict_at s l (rows_in table count) i → m' ≡ put_in i v m
+        → put_from s l (i + 1) (drop (i + 1) (rows_in table count)) m' ≡ put_from s l 0 (rows_in table count) first
+    put_turn e h = rw (add-one, h, e) (put_next (rows_in table count) i i m ∙ inv)
 
-  pub put_end : (table : List ℕ) (count i : ℕ) {m whole : Message} → put_from s l i (drop i (rows_in table count)) m ≡ whole → count ≤ i → m ≡ whole
-  unfolding put_from
-  put_end table count i inv h =
-      rw (drop_of_length-le (rows_in table count) {i = i} (omega (arith, rows_most table count))) at inv
+    pub put_end : count ≤ i → m ≡ put_from s l 0 (rows_in table count) first
+    unfolding put_from
+    put_end h = rw (drop_of_length-le (rows_in table count) {i = i} (omega (arith, rows_most table count))) at inv
 
 -- ------------------------------------------------------------------ 10 and 11 first
 
-module _ (s : List ℕ) (l : Layout) (room : ℕ) {rs : List Row} (x : rs ≡ index_at s l room) {v : Verdict} (b : v ≡ build_at s l rs) where
+module _ (s : List ℕ) (l : Layout) (room : ℕ) {rs : List Row} (x : rs ≡ index_at s l room) where
   module _ (i : ℕ) where
-    pub named_checked : {w : Verdict} → v ≡ Passes → w ≡ verdict_at s l rs i → w ≡ checked_in s l room i
+    pub named_checked : {w : Result Unit code.Refused} → Ok tt ≡ build_at s l rs → w ≡ verdict_at s l rs i → w ≡ checked_in s l room i
     unfolding checked_in
-    named_checked e h = rw (← x, ← b, e) h
+    named_checked e h = rw (← x, ← e) h
 
-    pub named_refused : {f : code.Refused} → v ≡ Refused f → v ≡ checked_in s l room i
+    pub named_refused : {f : code.Refused} → Err f ≡ build_at s l rs → Err f ≡ checked_in s l room i
     unfolding checked_in
-    named_refused e = rw (← x, ← b, e)
+    named_refused e = rw (← x, ← e)
 
   module _ (list : List ℕ) where
-    pub listed : {end : ℕ} {bytes final : List ℕ} → v ≡ Passes → message_in bytes end ≡ put_from s l 0 rs (message_in list 0) → final ≡ zeroed bytes end
-        → listing Passes final ≡ listed_in s l room list
+    pub listed : {end : ℕ} {bytes final : List ℕ} → Ok tt ≡ build_at s l rs → message_in bytes end ≡ put_from s l 0 rs (message_in list 0) → final ≡ zeroed bytes end
+        → listing (Ok tt) final ≡ listed_in s l room list
     unfolding listed_in
-    listed e h z = rw (← x, ← b, e, ← h, z)
+    listed e h z = rw (← x, ← e, ← h, z)
 
-    pub not_listed : {f : code.Refused} → v ≡ Refused f → listing v list ≡ listed_in s l room list
+    pub not_listed : {f : code.Refused} → Err f ≡ build_at s l rs → listing (Err f) list ≡ listed_in s l room list
     unfolding listed_in
-    not_listed e = rw (← x, ← b, e)
+    not_listed e = rw (← x, ← e)

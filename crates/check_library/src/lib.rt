@@ -11,38 +11,36 @@ ghost use Rattle.answer.specs.Matches.{answer_with, ended};
 ghost use Rattle.registry.specs.Places.{rows_in};
 ghost use Rattle.check_library.specs.Rows.{verdict_at, row_of, put_in, put_from, checked_in, listing, listed_in, AnswersList};
 
-use answer::{Answer, Verdict, answer_verdict, number_alone, refuse, refuse_number};
+use answer::{Answer, answer_verdict, number_alone, refuse, refuse_number};
 use buffer::{value_bytes, write_at, zero_from};
-use check_body::{check_def, verdict_of};
+use check_body::verdict;
 use grammar::codes::DEFINITIONS;
 use messages::Refused;
 use registry::{check_names, index};
 use tape::accept::accept;
-use tape::header::Opened;
 use tape::layout::{Layout, Place};
 
 // ------------------------------------------------------------------ the check of a row
 
 // The definition at row i of the first `count`. Past the end nothing is refused.
-fn check_row(s: &[u8], l: Layout, places: &[usize], count: usize, i: usize) -> Verdict
+#[tactic(auto, using(crate::proofs::Steps::row_past, crate::proofs::Steps::row_short, crate::proofs::Steps::row_checked))]
+fn check_row(s: &[u8], l: Layout, places: &[usize], count: usize, i: usize) -> Result<(), Refused>
     ensures { result ≡ verdict_at s.now l (rows_in places.now count) i }
 {
-    if count <= i {
-        return Verdict::Passes;
-    }
-    if places.len() / 2 <= i {
-        return Verdict::Passes;
+    if count <= i || places.len() / 2 <= i {
+        return Ok(());
     }
     let p = Place {
         at: places[2 * i] % 2048,
         text: places[2 * i + 1],
     };
-    verdict_of(check_def(s, l, p))
+    verdict(s, l, p)
 }
 
 // ------------------------------------------------------------------ the list
 
 // Writes a number behind a list that ends at `at`, as far as the buffer reaches, and answers where it then ends.
+#[tactic(auto, unfolding(format::specs::Entry::le))]
 fn put_four(list: &mut [u8], at: usize, n: usize) -> usize
     ensures { message_in list.new result ≡ write_in (le 4 n) (message_in list.old at) }
 {
@@ -51,58 +49,54 @@ fn put_four(list: &mut [u8], at: usize, n: usize) -> usize
 }
 
 // The same for a refused definition: index, number, start and end.
+#[tactic(auto, using(crate::proofs::Steps::row_put))]
 fn put_refused(list: &mut [u8], at: usize, i: usize, refused: Refused) -> usize
     ensures { message_in list.new result ≡ write_in (row_of i refused) (message_in list.old at) }
 {
-    let span = refused.span;
-    let reason = refused.reason;
-    let number = messages::number(reason);
+    let number = messages::number(refused.reason);
     let a = put_four(list, at, i);
     let b = put_four(list, a, number as usize);
-    let c = put_four(list, b, span.start as usize);
-    put_four(list, c, span.end as usize)
+    let c = put_four(list, b, refused.span.start as usize);
+    put_four(list, c, refused.span.end as usize)
 }
 
 // A definition that passes is not listed.
-fn put_verdict(list: &mut [u8], at: usize, i: usize, verdict: Verdict) -> usize
+#[tactic(auto, unfolding(crate::specs::Rows::put_in))]
+fn put_verdict(list: &mut [u8], at: usize, i: usize, verdict: Result<(), Refused>) -> usize
     ensures { message_in list.new result ≡ put_in i verdict (message_in list.old at) }
 {
     match verdict {
-        Verdict::Passes => at,
-        Verdict::Refused(refused) => put_refused(list, at, i, refused),
+        Ok(()) => at,
+        Err(refused) => put_refused(list, at, i, refused),
     }
 }
 
 // The refused definitions among the first `count` rows, and where their list ends.
+#[tactic(auto, using(crate::proofs::Steps::put_turn, crate::proofs::Steps::put_end))]
 fn put_list(s: &[u8], l: Layout, places: &[usize], count: usize, list: &mut [u8]) -> usize
     ensures { message_in list.new result ≡ put_from s.now l 0 (rows_in places.now count) (message_in list.old 0) }
 {
     let mut at: usize = 0;
-    let mut i: usize = 0;
-    while i < count {
-        let next = i + 1;
+    for i in 0..count {
         at = put_verdict(list, at, i, check_row(s, l, places, count, i));
-        i = next;
     }
     at
 }
 
 // 10 and 11, or the list and zeros behind it. The registry is indexed once.
-fn list_named(s: &[u8], l: Layout, places: &mut [usize], list: &mut [u8]) -> Verdict
+#[tactic(auto, using(crate::proofs::Steps::listed, crate::proofs::Steps::not_listed))]
+fn list_named(s: &[u8], l: Layout, places: &mut [usize], list: &mut [u8]) -> Result<(), Refused>
     ensures { listing result list.new ≡ listed_in s.now l (length places.old / 2) list.old }
 {
     let count = index(s, l, places);
-    let names = check_names(s, l, places, count);
-    let Verdict::Passes = names else {
-        return names;
-    };
+    check_names(s, l, places, count)?;
     let end = put_list(s, l, places, count, list);
     zero_from(list, end);
-    Verdict::Passes
+    Ok(())
 }
 
 // The rows of 255 definitions, as many as a registry can have.
-fn list_registry(s: &[u8], l: Layout, list: &mut [u8]) -> Verdict
+fn list_registry(s: &[u8], l: Layout, list: &mut [u8]) -> Result<(), Refused>
     ensures { listing result list.new ≡ listed_in s.now l 255 list.old }
 {
     let mut places = [0usize; 510];
@@ -114,12 +108,13 @@ fn answer_list(registry: &[u8], l: Layout, res: &mut [u8], message: &mut [u8]) -
     ensures { AnswersList registry.now l res.old (length message.old) (answer_with result res.new [] message.new) }
 {
     match list_registry(registry, l, res) {
-        Verdict::Passes => number_alone(0, 0, &mut [], &mut [], message),
-        Verdict::Refused(r) => refuse(registry, l, registry, l, r, 0, res, &mut [], message),
+        Ok(()) => number_alone(0, 0, &mut [], &mut [], message),
+        Err(r) => refuse(registry, l, registry, l, r, 0, res, &mut [], message),
     }
 }
 
 // A refusal that comes before a walk, of an operation that has a result and a message buffer.
+#[tactic(auto, using(crate::proofs::Operation::early_ended))]
 fn refuse_early(number: u32, res: &mut [u8], message: &mut [u8]) -> Answer
     ensures { answer_with result res.new [] message.new ≡ ended (without_work (length res.old) (length message.old)) (number_alone number) }
 {
@@ -128,36 +123,32 @@ fn refuse_early(number: u32, res: &mut [u8], message: &mut [u8]) -> Answer
 
 // The operation: 1 for buffers that are too short, then the tape, then 10 and 11; else 0, and the list of the refused definitions. The
 // answer and every byte of both buffers are what the definition says, for every slice and all buffers.
+#[tactic(auto, using(crate::proofs::Operation::short_result, crate::proofs::Operation::short_message, crate::proofs::Operation::library_refused))]
 pub fn check_library(registry: &[u8], res: &mut [u8], message: &mut [u8]) -> Answer
     ensures { answer_with result res.new [] message.new ≡ library_answer (length res.old) (length message.old) registry.now }
 {
-    if res.len() < 12296 {
-        return refuse_early(1, res, message);
-    }
-    if message.len() < 2048 {
+    if res.len() < 12296 || message.len() < 2048 {
         return refuse_early(1, res, message);
     }
     match accept(registry, DEFINITIONS) {
-        Opened::Refused(n) => refuse_early(n, res, message),
-        Opened::Tape(l) => answer_list(registry, l, res, message),
+        Err(fault) => refuse_early(fault.number(), res, message),
+        Ok(l) => answer_list(registry, l, res, message),
     }
 }
 
 // ------------------------------------------------------------------ one definition
 
 // 10 and 11, or the check of the definition at an index.
-fn check_named(s: &[u8], l: Layout, places: &mut [usize], i: usize) -> Verdict
+#[tactic(auto, using(crate::proofs::Steps::named_checked, crate::proofs::Steps::named_refused))]
+fn check_named(s: &[u8], l: Layout, places: &mut [usize], i: usize) -> Result<(), Refused>
     ensures { result ≡ checked_in s.now l (length places.old / 2) i }
 {
     let count = index(s, l, places);
-    let names = check_names(s, l, places, count);
-    let Verdict::Passes = names else {
-        return names;
-    };
+    check_names(s, l, places, count)?;
     check_row(s, l, places, count, i)
 }
 
-fn check_registry(s: &[u8], l: Layout, i: usize) -> Verdict
+fn check_registry(s: &[u8], l: Layout, i: usize) -> Result<(), Refused>
     ensures { result ≡ checked_in s.now l 255 i }
 {
     let mut places = [0usize; 510];
@@ -165,6 +156,7 @@ fn check_registry(s: &[u8], l: Layout, i: usize) -> Verdict
 }
 
 // The operation: after the same refusals what the check of that definition alone returns, its message too; past the end 0.
+#[tactic(auto, using(crate::proofs::Operation::check_short, crate::proofs::Operation::check_refused))]
 pub fn check_at(registry: &[u8], index: u32, message: &mut [u8]) -> Answer
     ensures { answer_with result [] [] message.new ≡ check_at_answer (length message.old) registry.now index }
 {
@@ -172,8 +164,8 @@ pub fn check_at(registry: &[u8], index: u32, message: &mut [u8]) -> Answer
         return refuse_number(1, message);
     }
     match accept(registry, DEFINITIONS) {
-        Opened::Refused(n) => refuse_number(n, message),
-        Opened::Tape(l) => {
+        Err(fault) => refuse_number(fault.number(), message),
+        Ok(l) => {
             let found = check_registry(registry, l, index as usize);
             answer_verdict(registry, l, found, message)
         }

@@ -1,5 +1,6 @@
 -- Where a tree stands, the walkers find what the check of the tree says. By induction on the nesting; each node is one clause.
 -- Assumes nothing.
+use Rattle.std.proofs.Common.{Some, Result, Ok, Err}
 use Prim.Native.Nat.{ℕ, zero, suc, ◌≤◌}
 use native.Mathlib.Omega.{arith}
 use mathlib.Core.Path.{◌≡◌, refl, sym, ap, subst, ◌∙◌}
@@ -37,7 +38,6 @@ use Rattle.nodes.specs.Node.{span_of, name_at, condition_at, term_at, agg_at, pa
 use Rattle.tape.specs.Scan.{skip_at}
 use Rattle.tape.specs.declared.layout.Layout.{Layout}
 use Rattle.tape.specs.declared.layout.Place.{Place}
-use Rattle.tape.specs.declared.scan.Skipped.TheVariants.{At}
 use Rattle.nodes.specs.declared.Name.{Name}
 use Rattle.tape.proofs.Located.{past, Inside, inside_skip}
 use Rattle.nodes.proofs.Placed.{
@@ -59,11 +59,9 @@ use Rattle.tape.proofs.Trees.{passes_condition}
 use Rattle.messages.specs.Reason.{number_of, message_of}
 use Rattle.messages.specs.declared.Reason.{Reason}
 use Rattle.messages.specs.declared.Reason.TheVariants.{Undeclared, PlainIdentifier, MacroInMacro}
-use Rattle.messages.specs.declared.Refused.{Refused as RefusedBy}
+use Rattle.messages.specs.declared.Refused.{Refused}
 use Rattle.answer.specs.Matches.{RefusalMatches}
 use Rattle.check_parts.specs.declared.Declared.{Declared}
-use Rattle.walk_state.specs.declared.reading.Checked.{Checked}
-use Rattle.walk_state.specs.declared.reading.Checked.TheVariants.{Passed, Refused}
 use Rattle.walk_state.specs.Reading.{after, and_then_in, items_in, refused_in, passed_in, past_name_in}
 use Rattle.check_parts.specs.Names.{plain_in, declared_in, param_in, sigil_in, within_in, slot_in, binder_in, binders_in}
 use Rattle.check_walk.specs.Walk.{
@@ -86,49 +84,49 @@ use Rattle.walk_state.proofs.Steps.{passed_at_lem, Strict, strict_items}
 -- ------------------------------------------------------------------ answers and verdicts
 
 -- the answer is what the verdict says, of a tree that ends at a place
-pub data Finds (s : List ℕ) (l : Layout) : Checked → Place → Verdict → Type 0 where
-  passes : {x : Checked} {end : Place} → x ≡ Passed end → Finds s l x end none
-  refuses : {x : Checked} {end : Place} {f : RefusedBy} {r : Refusal} → x ≡ Refused f → RefusalMatches s l s l f r → Finds s l x end (some r)
+pub data Finds (s : List ℕ) (l : Layout) : Result Place Refused → Place → Verdict → Type 0 where
+  passes : {x : Result Place Refused} {end : Place} → x ≡ Ok end → Finds s l x end none
+  refuses : {x : Result Place Refused} {end : Place} {f : Refused} {r : Refusal} → x ≡ Err f → RefusalMatches s l s l f r → Finds s l x end (some r)
 
 module _ {s : List ℕ} {l : Layout} where
-  starting : {x y : Checked} {end : Place} {v : Verdict} → x ≡ y → Finds s l y end v → Finds s l x end v
-  starting {x} {y} {end} {v} e h = subst (λ (z : Checked). Finds s l z end v) (sym e) h
+  starting : {x y : Result Place Refused} {end : Place} {v : Verdict} → x ≡ y → Finds s l y end v → Finds s l x end v
+  starting {x} {y} {end} {v} e h = subst (λ (z : Result Place Refused). Finds s l z end v) (sym e) h
 
-  pub ending : {x : Checked} {end end' : Place} {v : Verdict} → end ≡ end' → Finds s l x end' v → Finds s l x end v
+  pub ending : {x : Result Place Refused} {end end' : Place} {v : Verdict} → end ≡ end' → Finds s l x end' v → Finds s l x end v
   ending {x} {end} {end'} {v} e h = subst (λ (p : Place). Finds s l x p v) (sym e) h
 
   -- a walk after a walk: the first refusal stands
-  chain : (f : Checked → Checked) → Strict f → {x : Checked} {v w : Verdict} {mid end : Place} → Finds s l x mid v → Finds s l (f (Passed mid)) end w
+  chain : (f : Result Place Refused → Result Place Refused) → Strict f → {x : Result Place Refused} {v w : Verdict} {mid end : Place} → Finds s l x mid v → Finds s l (f (Ok mid)) end w
       → Finds s l (f x) end (v and_then w)
   unfolding ◌and_then◌
   chain f h (passes e) k = starting (ap f e) k
   chain f h (refuses e q) k = refuses (ap f e ∙ h _) q
 
   -- a way on that refuses nothing
-  goes_on : (f : Checked → Checked) → Strict f → {x : Checked} {v : Verdict} {mid end : Place} → Finds s l x mid v → f (Passed mid) ≡ Passed end → Finds s l (f x) end v
+  goes_on : (f : Result Place Refused → Result Place Refused) → Strict f → {x : Result Place Refused} {v : Verdict} {mid end : Place} → Finds s l x mid v → f (Ok mid) ≡ Ok end → Finds s l (f x) end v
   goes_on f h (passes e) k = passes (ap f e ∙ k)
   goes_on f h (refuses e q) k = refuses (ap f e ∙ h _) q
 
   -- the left side of a Since ends where its walk comes and where a skip comes
-  behind_right : (left : Place) {mid : Place} {y : Checked} {v : Verdict} → Finds s l y mid v → skip_at s l left grammar.condition ≡ At mid → behind_in s l left y ≡ Passed mid
+  behind_right : (left : Place) {mid : Place} {y : Result Place Refused} {v : Verdict} → Finds s l y mid v → skip_at s l left grammar.condition ≡ Some mid → behind_in s l left y ≡ Ok mid
   unfolding behind_in
   behind_right left (passes e) h = rw e
   behind_right left (refuses e q) h = rw e (sym (passed_at_lem h))
 
   -- the refusal of a within, that of the left side, then the right side
-  since_chain : (f : Checked → Checked) → Strict f → {x y : Checked} {u v w : Verdict} {mid right end : Place} → Finds s l x right u → Finds s l y mid v
-      → Finds s l (f (Passed right)) end w → Finds s l (f (and_then_in (and_then_in x y) x)) end (u and_then (v and_then w))
+  since_chain : (f : Result Place Refused → Result Place Refused) → Strict f → {x y : Result Place Refused} {u v w : Verdict} {mid right end : Place} → Finds s l x right u → Finds s l y mid v
+      → Finds s l (f (Ok right)) end w → Finds s l (f (and_then_in (and_then_in x y) x)) end (u and_then (v and_then w))
   unfolding ◌and_then◌
   since_chain f h {y = y} {right = right} (passes e) (passes q) k =
-      starting (ap (λ (z : Checked). f (and_then_in (and_then_in z y) z)) e ∙ ap (λ (z : Checked). f (and_then_in z (Passed right))) q) k
+      starting (ap (λ (z : Result Place Refused). f (and_then_in (and_then_in z y) z)) e ∙ ap (λ (z : Result Place Refused). f (and_then_in z (Ok right))) q) k
   since_chain f h {y = y} {right = right} (passes e) (refuses q m) k =
-      refuses (ap (λ (z : Checked). f (and_then_in (and_then_in z y) z)) e ∙ ap (λ (z : Checked). f (and_then_in z (Passed right))) q ∙ h _) m
-  since_chain f h {y = y} (refuses e q) m k = refuses (ap (λ (z : Checked). f (and_then_in (and_then_in z y) z)) e ∙ h _) q
+      refuses (ap (λ (z : Result Place Refused). f (and_then_in (and_then_in z y) z)) e ∙ ap (λ (z : Result Place Refused). f (and_then_in z (Ok right))) q ∙ h _) m
+  since_chain f h {y = y} (refuses e q) m k = refuses (ap (λ (z : Result Place Refused). f (and_then_in (and_then_in z y) z)) e ∙ h _) q
 
 -- ------------------------------------------------------------------ what is declared
 
 module _ (s : List ℕ) (d : Declared) (names : List Text) (declared : declared_in s d ≡ names) where
-  refuses_as : {end : Place} {x : Checked} {span : ℕ} (reason : Reason) {r : Refusal} → x ≡ refused_in span reason → number_of reason ≡ r.number → span ≡ r.span
+  refuses_as : {end : Place} {x : Result Place Refused} {span : ℕ} (reason : Reason) {r : Refusal} → x ≡ refused_in span reason → number_of reason ≡ r.number → span ≡ r.span
       → message_of s d.layout s d.layout reason ≡ r.message → Finds s d.layout x end (some r)
   unfolding refused_in
   refuses_as reason e n p m = refuses e (record { its_number = n; its_span = ap span_of p; its_message = m })
@@ -138,7 +136,7 @@ module _ (s : List ℕ) (d : Declared) (names : List Text) (declared : declared_
   unfolding param_in check_param message_of
   param_right {n} span name {next} e = rw (declared, e) (go (contains names n))
     where
-      go : (b : Bool) → Finds s d.layout (pick b (Passed next) (refused_in span (Undeclared name d.params d.count))) next
+      go : (b : Bool) → Finds s d.layout (pick b (Ok next) (refused_in span (Undeclared name d.params d.count))) next
           (elim b [ true ↦ none | false ↦ some (refusal 20 span (undeclared_parameter n names)) ])
       go true = passes refl
       go false = refuses_as (Undeclared name d.params d.count) refl refl refl (rw (declared, e))
@@ -159,7 +157,7 @@ module _ (s : List ℕ) (d : Declared) (names : List Text) (declared : declared_
   sigil_right Sigil.Binder span name e = passes refl
 
   within_right : (w : WithinSpec) (span : ℕ) {p : Place} → Inside s d.layout p (flat_within w ∷ [])
-      → Finds s d.layout (within_in s d span (Passed p)) (past (flat_within w ∷ []) p) (check_within_in_body names w span)
+      → Finds s d.layout (within_in s d span (Ok p)) (past (flat_within w ∷ []) p) (check_within_in_body names w span)
   unfolding within_in check_within_in_body
   within_right (WithinSpec.Concrete i) span h = rw (parts_within (WithinSpec.Concrete i) h) (passes refl)
   within_right (WithinSpec.ParamRef n) span h =
@@ -167,7 +165,7 @@ module _ (s : List ℕ) (d : Declared) (names : List Text) (declared : declared_
       rw v.read (param_right span v.name v.spelled)
 
   slot_right : (v : BinderSlot) (span : ℕ) {p : Place} → Inside s d.layout p (flat_slot v ∷ [])
-      → Finds s d.layout (slot_in s d span (Passed p)) (past (flat_slot v ∷ []) p) (check_binder_slot names v span)
+      → Finds s d.layout (slot_in s d span (Ok p)) (past (flat_slot v ∷ []) p) (check_binder_slot names v span)
   unfolding slot_in check_binder_slot
   slot_right (BinderSlot.Name n) span h =
       let v = parts_slot (BinderSlot.Name n) h in
@@ -180,14 +178,14 @@ module _ (s : List ℕ) (d : Declared) (names : List Text) (declared : declared_
   -- a slot, and its type behind it
   binder_right : (b : TypedBinder) (span : ℕ) {p : Place} → Inside s d.layout p (flat_slot b.slot ∷ [])
       → Inside s d.layout (past (flat_slot b.slot ∷ []) p) (flat_type b.ty)
-      → Finds s d.layout (binder_in s d span (Passed p)) (past (flat_type b.ty) (past (flat_slot b.slot ∷ []) p))
+      → Finds s d.layout (binder_in s d span (Ok p)) (past (flat_type b.ty) (past (flat_slot b.slot ∷ []) p))
       (check_binder_slot names b.slot span)
   unfolding binder_in passed_in
   binder_right b span h k =
       goes_on (after (λ q. passed_in (past_type_at s d.layout q))) (λ r. refl) (slot_right b.slot span h) (rw (past_type b.ty k))
 
   each_binder : (bs : List TypedBinder) (span : ℕ) {p : Place} → Inside s d.layout p (flat_binders bs)
-      → Finds s d.layout (items_in (binder_in s d span) (length bs) (Passed p)) (past (flat_binders bs) p) (check_binders names bs span)
+      → Finds s d.layout (items_in (binder_in s d span) (length bs) (Ok p)) (past (flat_binders bs) p) (check_binders names bs span)
   unfolding items_in check_binders
   each_binder [] span h = ending (parts_binders [] h) (passes refl)
   each_binder (b ∷ bs) span h =
@@ -197,7 +195,7 @@ module _ (s : List ℕ) (d : Declared) (names : List Text) (declared : declared_
       (each_binder bs span runs.third))
 
   binders_right : (bs : List TypedBinder) (span : ℕ) {p : Place} → Inside s d.layout p (binder_list bs)
-      → Finds s d.layout (binders_in s d span (Passed p)) (past (binder_list bs) p) (check_binders names bs span)
+      → Finds s d.layout (binders_in s d span (Ok p)) (past (binder_list bs) p) (check_binders names bs span)
   unfolding binders_in
   binders_right bs span h =
       let list = parts_list (length bs) (flat_binders bs) h in
@@ -208,17 +206,17 @@ module _ (s : List ℕ) (d : Declared) (names : List Text) (declared : declared_
   -- the walkers are right about trees that are at most n deep
   pub record Right (W : Walkers) (n : ℕ) : Type 0 where
     pub condition : (c : Condition) {p : Place} → Inside s d.layout p (flat_condition c) → deep_condition node_weight c ≤ n
-        → Finds s d.layout (W.condition (Passed p)) (past (flat_condition c) p) (check_temporal_condition_body names c)
+        → Finds s d.layout (W.condition (Ok p)) (past (flat_condition c) p) (check_temporal_condition_body names c)
     pub term : (t : Term) (span : ℕ) {p : Place} → Inside s d.layout p (flat_term t) → deep_term node_weight t ≤ n
-        → Finds s d.layout (W.term span (Passed p)) (past (flat_term t) p) (check_temporal_term names t span)
+        → Finds s d.layout (W.term span (Ok p)) (past (flat_term t) p) (check_temporal_term names t span)
     pub agg : (a : AggExpr) {p : Place} → Inside s d.layout p (flat_agg a) → deep_agg node_weight a ≤ n
-        → Finds s d.layout (W.agg (Passed p)) (past (flat_agg a) p) (check_temporal_agg_body names a)
+        → Finds s d.layout (W.agg (Ok p)) (past (flat_agg a) p) (check_temporal_agg_body names a)
     pub strict_condition : Strict W.condition
     pub strict_term : (span : ℕ) → Strict (W.term span)
 
   module _ (W : Walkers) (n : ℕ) (R : Right W n) where
     each_term : (ts : Terms) (span : ℕ) {p : Place} → Inside s d.layout p (flat_terms ts) → deep_terms node_weight ts ≤ n
-        → Finds s d.layout (items_in (W.term span) (length_terms ts) (Passed p)) (past (flat_terms ts) p) (check_temporal_terms names ts span)
+        → Finds s d.layout (items_in (W.term span) (length_terms ts) (Ok p)) (past (flat_terms ts) p) (check_temporal_terms names ts span)
     unfolding items_in check_temporal_condition_body deep_condition length_terms
     each_term Terms.no_terms span h m = ending (parts_terms Terms.no_terms h) (passes refl)
     each_term (Terms.cons_term t ts) span h m =
@@ -228,7 +226,7 @@ module _ (s : List ℕ) (d : Declared) (names : List Text) (declared : declared_
         (each_term ts span runs.second (omega arith)))
 
     each_field : (fs : NamedArgs) (span : ℕ) {p : Place} → Inside s d.layout p (flat_fields fs) → deep_fields node_weight fs ≤ n
-        → Finds s d.layout (items_in (field_in s d W span) (length_fields fs) (Passed p)) (past (flat_fields fs) p) (check_temporal_fields names fs span)
+        → Finds s d.layout (items_in (field_in s d W span) (length_fields fs) (Ok p)) (past (flat_fields fs) p) (check_temporal_fields names fs span)
     unfolding items_in check_temporal_condition_body deep_condition length_fields past_name_in
     each_field NamedArgs.no_fields span h m = ending (parts_fields NamedArgs.no_fields h) (passes refl)
     each_field (NamedArgs.cons_field name t fs) span h m =
@@ -240,7 +238,7 @@ module _ (s : List ℕ) (d : Declared) (names : List Text) (declared : declared_
         (each_field fs span i.runs.second (omega arith)))
 
     fields_right : (fs : NamedArgs) (span : ℕ) {p : Place} → Inside s d.layout p (field_list fs) → deep_fields node_weight fs ≤ n
-        → Finds s d.layout (fields_in s d W span (Passed p)) (past (field_list fs) p) (check_temporal_fields names fs span)
+        → Finds s d.layout (fields_in s d W span (Ok p)) (past (field_list fs) p) (check_temporal_fields names fs span)
     unfolding fields_in
     fields_right fs span h m =
         let list = parts_list (length_fields fs) (flat_fields fs) h in

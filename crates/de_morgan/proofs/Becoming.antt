@@ -1,5 +1,6 @@
 -- Where entries stand that become others when every Or is rewritten, the others are what is put.
 -- Assumes nothing.
+use Rattle.std.proofs.Common.{Some}
 use Prim.Native.Nat.{ℕ, suc, ◌+◌, ◌-◌, ◌≤◌, ◌<◌}
 use mathlib.Core.Path.{◌≡◌, refl, sym, ap, ◌∙◌}
 use mathlib.Core.Bool.{false}
@@ -17,7 +18,6 @@ use Rattle.tape.specs.Layouts.{onward}
 use Rattle.tape.specs.Scan.{skip_at}
 use Rattle.tape.specs.declared.layout.Layout.{Layout}
 use Rattle.tape.specs.declared.layout.Place.{Place}
-use Rattle.tape.specs.declared.scan.Skipped.TheVariants.{At}
 use Rattle.tape.proofs.Located.{past, past_append, past_at, Inside, inside_front, inside_back, inside_next, inside_skip}
 use Rattle.tape.proofs.Runs.{run_code, run_value}
 use Rattle.tape.proofs.Trees.{passes_condition}
@@ -104,7 +104,7 @@ module _ (s : List ℕ) (l : Layout) where
       let rs = flat_condition b in
       let q = onward p 0 in
       let inner = inside_next (entry 2 span) (ls ++ rs) i in
-      let found : skip_at s l q 1 ≡ At (past ls q) = inside_skip (inside_front ls rs inner) (passes_condition a) (omega arith) in
+      let found : skip_at s l q 1 ≡ Some (past ls q) = inside_skip (inside_front ls rs inner) (passes_condition a) (omega arith) in
       let mid = (past ls q).at in
       let text = (past ls q).text in
       let m = past_at ls q in

@@ -5,7 +5,6 @@ use mathlib.Core.Path.{◌≡◌, refl, sym, ap, ◌∙◌}
 use mathlib.Core.List.{List, [], ◌∷◌, ◌++◌}
 use native.Mathlib.Nat.{add-zero}
 use native.Mathlib.Omega.{arith}
-use borrow.Author.Tests.{ne_eqb}
 use lib.ListN.{length, drop, set}
 use lib.Seq.{sets, set_comm}
 use Rattle.buffer.proofs.Sets.{sets_append}
@@ -54,20 +53,6 @@ heads_put n at (e ∷ es) out h =
     ∙ rw (c, y, sets_comm first (suc (8 + at)) cs x v (omega (arith, length_codes es))) (sym (sets_append (sets out (8 + at) (e.code ∷ cs)) x v vs))
 
 -- ------------------------------------------------------------------ the loop
-
--- the three entries that an Or becomes, and an entry that stays
-module _ {n put code value : ℕ} {out : List ℕ} where
-  pub or_put : {out₁ out₂ out₃ : List ℕ} → code ≡ 2 → out₁ ≡ put_head n put 3 value out → out₂ ≡ put_head n (put + 1) 1 value out₁
-      → out₃ ≡ put_head n (put + 2) 3 value out₂ → EntryPut n put code value out (put + 3) out₃
-  unfolding heads_of put_heads
-  or_put e w₁ w₂ w₃ =
-      let k : put + 1 + 1 ≡ put + 2 = omega arith in
-      record { put_is = rw e refl; put_most = omega arith; written = rw (e, k, ← w₁, ← w₂) w₃ }
-
-  pub other_put : {out₁ : List ℕ} → (code ≡ 2 → ⊥) → out₁ ≡ put_head n put code value out → EntryPut n put code value out (put + 1) out₁
-  unfolding heads_of put_heads
-  other_put e w =
-      record { put_is = rw (ne_eqb code 2 e) refl; put_most = omega arith; written = rw (ne_eqb code 2 e) w }
 
 -- what is left to put, from a place on
 abbrev pub left_to_put : List ℕ → Layout → ℕ → ℕ → ℕ → ℕ → ℕ → List ℕ → List ℕ → List ℕ

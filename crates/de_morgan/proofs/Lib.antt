@@ -1,5 +1,6 @@
 -- Laws of the rewritten tape.
-mod Sides
-mod Heads
+pub mod Sides
+pub mod Among
+pub mod Heads
 pub mod Becoming
 pub mod Rewritten

@@ -1,62 +1,28 @@
 -- The list of right sides that are still to come, in memory and as it is meant.
 -- Assumes nothing.
 use Prim.Native.Nat.{ℕ, suc, ◌+◌, ◌-◌, ◌≤◌, ◌<◌}
-use mathlib.Core.Path.{◌≡◌, refl, sym, ◌∙◌}
-use mathlib.Core.Bool.{Bool, true, false}
+use mathlib.Core.Path.{◌≡◌, refl, sym}
+use mathlib.Core.Bool.{true}
 use mathlib.Core.List.{List, ◌∷◌}
-use native.Mathlib.Nat.{add-zero}
 use native.Mathlib.Omega.{arith}
-use borrow.Author.Tests.{ltb-true, lt-ltb, le-ltb}
+use borrow.Author.Tests.{ltb-true}
 use lib.Dec.{ltb, eqb}
-use lib.ListN.{length, drop, get_or, set, length-drop, length-set}
-use lib.Seq.{drop-cons, drop-drop, drop-set-lt, get_or-drop, get_or-set_same}
+use lib.ListN.{length, drop, get_or, set, length-drop, length-set, take}
+use lib.Seq.{drop-cons, drop-drop, drop-set-lt, get_or-set_same, take-length}
 use Rattle.format.proofs.Tests.{and_left, from_true, is_true}
-use Rattle.de_morgan.specs.Rewritten.{begins_at, negation, sides_after, put_head, put_heads, SideBegun}
+use Rattle.de_morgan.specs.Rewritten.{begins_at}
 
-module _ (sides : List ℕ) (top at : ℕ) where
-  pub begins_none : length sides - top < 2 → false ≡ begins_at at (drop top sides)
-  unfolding begins_at
-  begins_none h = rw (length-drop top sides, le-ltb 1 (length sides - top) (omega arith))
+-- a side that begins stands in the list, with its span
+pub begins_room : (at : ℕ) (sides : List ℕ) → begins_at at sides ≡ true → 1 < length sides
+unfolding begins_at
+begins_room at sides e =
+    ltb-true 1 (length sides) (is_true (and_left (ltb 1 (length sides)) (eqb (get_or sides 0 0) at) (from_true e)))
 
-  pub begins_some : 2 ≤ length sides - top → eqb (get_or sides top 0) at ≡ begins_at at (drop top sides)
-  unfolding begins_at
-  begins_some h = rw (length-drop top sides, lt-ltb 1 (length sides - top) (omega arith), get_or-drop top sides 0 0, add-zero)
+pub rest_whole : (top : ℕ) (sides : List ℕ) → take (length sides - top) (drop top sides) ≡ drop top sides
+rest_whole top sides = rw (← length-drop top sides) (take-length (drop top sides))
 
-  pub begins_room : begins_at at (drop top sides) ≡ true → top + 1 < length sides
-  unfolding begins_at
-  begins_room e =
-      let t = is_true (and_left (ltb 1 (length (drop top sides))) (eqb (get_or (drop top sides) 0 0) at) (from_true e)) in
-      omega (arith, ltb-true 1 (length (drop top sides)) t, length-drop top sides)
-
-  -- the negation of a side that begins, and none where no side does
-  module _ {b : Bool} (n put : ℕ) (out : List ℕ) (is : b ≡ begins_at at (drop top sides)) (inside : top ≤ length sides) where
-    pub side_begins : b ≡ true → {after : List ℕ} → after ≡ put_head n put 3 (get_or sides (top + 1) 0) out
-        → SideBegun n put at sides top out (record { top = top + 2; put = put + 1 }) after
-    unfolding negation sides_after put_heads
-    side_begins e {after} w =
-        let t : begins_at at (drop top sides) ≡ true = sym is ∙ e in
-        let room = begins_room t in
-        record {
-          top_is = rw t (sym (drop-drop 2 top sides));
-          top_up = omega arith;
-          top_most = omega arith;
-          put_is = rw t refl;
-          put_most = omega arith;
-          written = rw (t, get_or-drop top sides 1 0) w;
-        }
-
-    pub side_waits : b ≡ false → SideBegun n put at sides top out (record { top = top; put = put }) out
-    unfolding negation sides_after put_heads
-    side_waits e =
-        let t : begins_at at (drop top sides) ≡ false = sym is ∙ e in
-        record {
-          top_is = rw t refl;
-          top_up = omega arith;
-          top_most = inside;
-          put_is = rw (t, add-zero) refl;
-          put_most = omega arith;
-          written = rw t refl;
-        }
+pub behind_two : (top : ℕ) (sides : List ℕ) → drop (top + 2) sides ≡ drop 2 (drop top sides)
+behind_two top sides = sym (drop-drop 2 top sides)
 
 -- two stores below the top are a side more
 pub side_stored : (sides : List ℕ) (top right span : ℕ) → 2 ≤ top → top ≤ length sides

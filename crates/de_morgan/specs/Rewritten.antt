@@ -2,7 +2,7 @@
 -- of its left side, a 3 comes in front of its right one, every other entry stays, and so does the text. Where the slice holds a tree at
 -- the layout's start, this is the tape of the rewritten tree (proofs/Rewritten.antt).
 -- Assumes nothing.
-use Rattle.std.specs.Prelude.{ℕ, zero, suc, ◌+◌, ◌*◌, ◌≤◌, ◌≡◌, List, [], ◌∷◌, ◌++◌, Bool, ◌&&◌, leb, ltb, eqb, length, drop, get_or}
+use Rattle.std.specs.Prelude.{ℕ, zero, suc, ◌+◌, ◌*◌, ◌≤◌, ◌≡◌, List, [], ◌∷◌, ◌++◌, Bool, ◌&&◌, leb, ltb, eqb, length, drop, get_or, Option, Some, None}
 use Rattle.std.proofs.lemmas.List.Edits.{sets}
 use Rattle.format.specs.Entry.{Entry, entry, le}
 use Rattle.format.specs.Limits.{weigh}
@@ -13,8 +13,6 @@ use Rattle.tape.specs.Pick.{pick}
 use Rattle.tape.specs.Scan.{skip_at}
 use Rattle.tape.specs.declared.layout.Layout.{Layout}
 use Rattle.tape.specs.declared.layout.Place.{Place}
-use Rattle.tape.specs.declared.scan.Skipped.{Skipped}
-use Rattle.tape.specs.declared.scan.Skipped.TheVariants.{At, Nowhere}
 use Rattle.de_morgan.specs.declared.Begun.{Begun}
 
 -- ------------------------------------------------------------------ right sides that are still to come
@@ -31,9 +29,9 @@ unfoldable pub sides_after : ℕ → List ℕ → List ℕ
 sides_after at sides = pick (begins_at at sides) (drop 2 sides) sides
 
 -- Where a right side begins, behind the left one; 0, where none begins any more, if no condition stands there.
-abbrev pub right_of : Skipped → ℕ
-right_of (At p) = p.at
-right_of Nowhere = 0
+abbrev pub right_of : Option Place → ℕ
+right_of (Some p) = p.at
+right_of None = 0
 
 -- an Or brings a right side
 unfoldable pub sides_with : List ℕ → Layout → ℕ → ℕ → Place → List ℕ → List ℕ

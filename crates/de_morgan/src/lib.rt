@@ -13,12 +13,13 @@ ghost use Rattle.tape.specs.Scan.{skip_at};
 ghost use Rattle.de_morgan.specs.Rewritten.{begins_at, right_of, heads_from, put_head, put_heads, tape_in, rewritten_in, rewritten_layout, SideBegun, EntryPut, SideAdded};
 
 use buffer::{value_bytes, write, write_size};
-use grammar::codes::{CONDITION, either};
+use grammar::code;
+use grammar::codes::CONDITION;
 use grammar::kind::text_width;
 use tape::layout::{Layout, Place, code_at, holds, of_tape, text_behind, value_at};
 use tape::ors::count_held;
 use tape::part::part_of;
-use tape::scan::{Skipped, skip};
+use tape::scan::skip;
 
 // Puts the code and the value of entry `at` of a tape of `n` entries.
 fn put_head(out: &mut [u8], n: usize, at: usize, code: u8, value: u64)
@@ -30,32 +31,30 @@ fn put_head(out: &mut [u8], n: usize, at: usize, code: u8, value: u64)
 }
 
 // Puts what an entry becomes from entry `put` on, and answers where the next goes.
+#[tactic(auto, unfolding(crate::specs::Rewritten::heads_of, crate::specs::Rewritten::put_heads))]
 fn put_entry(out: &mut [u8], n: usize, put: usize, code: u8, value: u64) -> usize
     requires { (n ≤ 1024) × (put ≤ 4097) }
     ensures { EntryPut n put code value out.old result out.new }
 {
-    if code == 2 {
-        put_head(out, n, put, 3, value);
-        put_head(out, n, put + 1, 1, value);
-        put_head(out, n, put + 2, 3, value);
-        return put + 3;
+    if code != code::OR {
+        put_head(out, n, put, code, value);
+        return put + 1;
     }
-    put_head(out, n, put, code, value);
-    put + 1
+    put_head(out, n, put, code::NOT, value);
+    put_head(out, n, put + 1, code::AND, value);
+    put_head(out, n, put + 2, code::NOT, value);
+    put + 3
 }
 
 // Right sides that are still to come stand in a list that grows downward, the nearest on top, two numbers for each: the entry where it
 // begins, and the span of its Or. They begin in that order, and at most one at an entry.
 
 // Whether the nearest begins at entry `at`.
-fn begins(sides: &[u64], top: usize, at: usize) -> bool
-    requires { top ≤ length sides.now }
-    ensures { result ≡ begins_at at (drop top sides.now) }
+#[tactic(auto, unfolding(crate::specs::Rewritten::begins_at))]
+fn begins(sides: &[u64], at: usize) -> bool
+    ensures { result ≡ begins_at at sides.now }
 {
-    if sides.len() - top < 2 {
-        return false;
-    }
-    sides[top] == at as u64
+    2 <= sides.len() && sides[0] == at as u64
 }
 
 // The top of the list, and where the next entry goes.
@@ -66,12 +65,14 @@ struct Begun {
 }
 
 // Puts the negation in front of entry `at`, if a right side begins there, and takes that side off the list.
+#[tactic(auto, using(crate::proofs::Sides::begins_room, crate::proofs::Sides::rest_whole, crate::proofs::Sides::behind_two), unfolding(crate::specs::Rewritten::sides_after, crate::specs::Rewritten::negation, crate::specs::Rewritten::put_heads))]
 fn begin_side(out: &mut [u8], n: usize, put: usize, sides: &[u64], top: usize, at: usize) -> Begun
     requires { (n ≤ 1024) × (put ≤ 4096) × (top ≤ length sides.now) }
     ensures { SideBegun n put at sides.now top out.old result out.new }
 {
-    if begins(sides, top, at) {
-        put_head(out, n, put, 3, sides[top + 1]);
+    let waiting = &sides[top..];
+    if begins(waiting, at) {
+        put_head(out, n, put, code::NOT, waiting[1]);
         return Begun {
             top: top + 2,
             put: put + 1,
@@ -85,13 +86,14 @@ fn begin_side(out: &mut [u8], n: usize, put: usize, sides: &[u64], top: usize, a
 fn right_side(s: &[u8], l: Layout, left: Place) -> usize
     ensures { result ≡ right_of (skip_at s.now l left 1) }
 {
-    let Skipped::At(p) = skip(s, l, left, CONDITION) else {
+    let Some(p) = skip(s, l, left, CONDITION) else {
         return 0;
     };
     p.at
 }
 
 // Adds the right side that an entry brings, if it is an Or, and answers the new top. Its left side stands at `next`.
+#[tactic(auto, using(crate::proofs::Sides::side_stored), unfolding(crate::specs::Rewritten::sides_with, format::specs::Limits::weigh))]
 fn add_side(
     sides: &mut [u64],
     top: usize,
@@ -104,7 +106,7 @@ fn add_side(
     requires { (code ≡ 2 → 2 ≤ top) × (top ≤ length sides.old) }
     ensures { SideAdded s.now l code value next sides.old top result sides.new }
 {
-    if code != 2 {
+    if code != code::OR {
         return top;
     }
     let right = right_side(s, l, next);
@@ -114,23 +116,22 @@ fn add_side(
 }
 
 // Puts codes and values of what the entries of a layout become. `sides` has room for two numbers of each Or.
+#[tactic(auto, using(crate::proofs::Among::or_left), unfolding(crate::specs::Rewritten::heads_from, crate::specs::Rewritten::put_heads))]
 fn put_heads(out: &mut [u8], n: usize, sides: &mut [u64], s: &[u8], l: Layout)
     requires { (n ≤ 1024) × Held s.now l × (2 * ors_from s.now l 0 ≤ length sides.old) }
     ensures { out.new ≡ put_heads n 0 (heads_from s.now l l.entries 0 0 []) out.old }
 {
-    let entries = l.entries;
-    let mut at = 0;
     let mut text = 0;
     let mut top = sides.len();
     let mut put = 0;
-    while at < entries {
+    for at in 0..l.entries {
         let begun = begin_side(out, n, put, sides, top, at);
         let code = code_at(s, l, at);
         let value = value_at(s, l, at);
         text = text_behind(l.size, text, text_width(code, value));
         put = put_entry(out, n, begun.put, code, value);
-        at += 1;
-        top = add_side(sides, begun.top, s, l, code, value, Place { at, text });
+        let next = Place { at: at + 1, text };
+        top = add_side(sides, begun.top, s, l, code, value, next);
     }
 }
 
@@ -157,6 +158,7 @@ fn write_tape(out: &mut [u8], n: usize, s: &[u8], l: Layout)
 // Writes the rewritten tape at the front of `out`, as far as it reaches, and answers its layout. Where the slice does not hold the
 // layout, or the tape would have more than 1,024 entries, both of which acceptance rules out, nothing is written, and the layout has no
 // entry.
+#[tactic(auto, using(tape::proofs::Counting::ors_most))]
 pub fn rewrite(s: &[u8], l: Layout, out: &mut [u8]) -> Layout
     ensures layout { result ≡ rewritten_layout s.now l }
     ensures bytes { out.new ≡ rewritten_in s.now l out.old }
@@ -173,12 +175,13 @@ pub fn rewrite(s: &[u8], l: Layout, out: &mut [u8]) -> Layout
 }
 
 // Whether no code is a 2. Each is looked at, found or not, so that the compiler takes many at once.
+#[tactic(auto, using(crate::proofs::Among::none_step, crate::proofs::Among::none_end))]
 fn none_among(codes: &[u8]) -> bool
     ensures { result ≡ eqb (tally 2 (coded codes.now)) 0 }
 {
     let mut found = false;
-    for i in 0..codes.len() {
-        found = either(found, codes[i] == 2);
+    for &code in codes {
+        found |= code == code::OR;
     }
     !found
 }
@@ -199,8 +202,5 @@ pub fn none_on(s: &[u8], l: Layout) -> bool
 pub fn without_or(s: &[u8], d: Layout, t: &[u8], c: Layout) -> bool
     ensures { result ≡ (eqb (ors_in s.now d) 0 && eqb (ors_in t.now c) 0) }
 {
-    if none_on(s, d) {
-        return none_on(t, c);
-    }
-    false
+    none_on(s, d) && none_on(t, c)
 }

@@ -1,11 +1,13 @@
 -- The macro that a call names: where a registry stands, the code finds the definition that `Registry::get` finds.
 -- Assumes nothing.
+use Rattle.subst_call.specs.declared.Macro.{Macro}
+use Rattle.std.proofs.Common.{Some, None, Option}
 use Prim.Native.Nat.{ℕ, ◌≤◌}
 use native.Mathlib.Omega.{arith}
 use mathlib.Core.Path.{◌≡◌, refl}
 use mathlib.Core.List.{List, [], ◌∷◌}
 use mathlib.Core.Bool.{Bool, true, false}
-use mathlib.Core.Option.{Option, none, some}
+use mathlib.Core.Option.{Option as Maybe, none, some}
 use lib.Dec.{T, eqb}
 use lib.ListN.{length}
 use Rattle.format.specs.Entry.{Text, entry}
@@ -27,12 +29,8 @@ use Rattle.nodes.proofs.Placed.{parts_call, parts_def}
 use Rattle.tape.proofs.Roots.{few_params_lem as few-params-of, nesting_64}
 use Rattle.format.proofs.Tests.{and_left, and_right}
 use Rattle.registry.specs.Places.{Row, key_of, end_of, get_at}
-use Rattle.registry.specs.declared.Found.{Found}
-use Rattle.registry.specs.declared.Found.TheVariants as found
 use Rattle.registry.proofs.Standing.{Indexed, indexed_nil, indexed_cons, Ended, ended_nil, ended_cons, other_key}
 use Rattle.subst_call.specs.Front.{on_macro, macro_from}
-use Rattle.subst_call.specs.declared.MacroRead.{MacroRead}
-use Rattle.subst_call.specs.declared.MacroRead.TheVariants as macro
 use Rattle.subst_call.proofs.TreesFront.{kind_of, def_head, params, called, macro_from_lem}
 use Rattle.expand_calls.specs.Output.{Reads}
 use Rattle.expand_calls.specs.Calls.{on_found, resolve_in, is_value, calls_value_in}
@@ -73,14 +71,14 @@ settled_of {reg = reg} h indexed ended limit file =
 
 module _ (R : Reads) where
   -- nothing was found, or a definition that stands on the registry's tape
-  pub data Resolved : MacroRead → Option MacroDef → Type 0 where
-    unresolved : Resolved macro.Nothing none
+  pub data Resolved : Option Macro → Maybe MacroDef → Type 0 where
+    unresolved : Resolved None none
     resolved : (d : MacroDef) {p : Place} (h : Inside R.registry R.definitions p (flat_def d)) → length d.params ≤ 16
-        → deep_body node_weight d.body ≤ 64 → Resolved (macro.Macro (called d h d.body)) (some d)
+        → deep_body node_weight d.body ≤ 64 → Resolved (Some (called d h d.body)) (some d)
 
   -- the macro that was found
-  abbrev macro_of : Found → MacroRead
-  macro_of f = on_found macro.Nothing (macro_from R.registry R.definitions) f
+  abbrev macro_of : Option (Heading × Place × ℕ) → Option Macro
+  macro_of f = on_found None (macro_from R.registry R.definitions) f
 
   abbrev Looked : List Row → List MacroDef → Text → Type 0
   Looked rs ds name = Resolved (macro_of (get_at R.registry R.definitions rs name)) (get ds name)
@@ -98,7 +96,7 @@ module _ (R : Reads) where
       go : (b : Bool) → Looked rs ds name
           → Resolved
           (macro_of
-          (pick b (found.Definition (def_head d i) (params d i) (end_of R.definitions rs)) (get_at R.registry R.definitions rs name)))
+          (pick b (Some (def_head d i, params d i, end_of R.definitions rs)) (get_at R.registry R.definitions rs name)))
           (elim b [ true ↦ some d | false ↦ get ds name ])
       go true rest = rw (macro_from_lem d i e) (resolved d i (all_head few) (all_head deep))
       go false rest = rest
@@ -107,7 +105,7 @@ module _ (R : Reads) where
           → Resolved
           (macro_of
           (pick t
-          (pick (eq_text d.name name) (found.Definition (def_head d i) (params d i) (end_of R.definitions rs))
+          (pick (eq_text d.name name) (Some (def_head d i, params d i, end_of R.definitions rs))
           (get_at R.registry R.definitions rs name))
           (get_at R.registry R.definitions rs name)))
           (elim (eq_text d.name name) [ true ↦ some d | false ↦ get ds name ])
@@ -120,7 +118,7 @@ module _ {R : Reads} {reg : Registry} (S : Settled R reg) where
   unfolding resolve_in
   resolves head {name} e = rw e (found_resolves R S.indexed S.ended S.few_params_lem S.shallow name)
 
-  value_kind : {m : MacroRead} {o : Option MacroDef} → Resolved R m o
+  value_kind : {m : Option Macro} {o : Maybe MacroDef} → Resolved R m o
       → on_macro false (λ def. is_value R def.kind) m ≡ elim o [ some d ↦ is_value_body d.body | none ↦ false ]
   unfolding is_value_body
   value_kind unresolved = refl

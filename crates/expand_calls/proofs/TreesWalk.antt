@@ -1,6 +1,7 @@
 -- What a walk of an expansion gives where a tree stands: the entries of the expanded tree behind those that were written, or the refusal
 -- of the tree's definition. A walk writes to its own area and to those above it.
 -- Assumes nothing.
+use Rattle.std.proofs.Common.{Some}
 use Prim.Native.Nat.{ℕ, ◌+◌, ◌*◌, ◌≤◌}
 use native.Mathlib.Omega.{arith}
 use mathlib.Core.Path.{◌≡◌, refl, sym, ap, subst, ◌∙◌}
@@ -12,7 +13,6 @@ use Rattle.definition.specs.Outcome.{Refusal, Outcome, Walk as Walks, proceed}
 use Rattle.tape.specs.Scan.{skip_at}
 use Rattle.tape.specs.declared.layout.Layout.{Layout}
 use Rattle.tape.specs.declared.layout.Place.{Place}
-use Rattle.tape.specs.declared.scan.Skipped.TheVariants.{At}
 use Rattle.area.specs.Area.{Area, Within}
 use Rattle.messages.specs.declared.Refused.{Refused}
 use Rattle.answer.specs.Matches.{RefusalMatches}
@@ -113,7 +113,7 @@ module _ (R : Reads) where
 
     -- the left side of a Since ends where its walk comes and where a skip comes
     pub gives_behind : (s : List ℕ) (l : Layout) (left : Place) {end : Place} {X : Progress} {o : Outcome A} → WalkMatches Also flat P es X end o
-        → skip_at s l left grammar.condition ≡ At end → behind_in s l left X.walk ≡ At end
+        → skip_at s l left grammar.condition ≡ Some end → behind_in s l left X.walk ≡ Some end
     unfolding behind_in
     gives_behind s l left (writes Q result e h v ready also) skipped = rw e
     gives_behind s l left (refuses work result e h) skipped = rw e skipped

@@ -1,6 +1,7 @@
 -- A call: which macro it names, and what it becomes once its arguments are expanded.
 -- Assumes nothing.
-use Rattle.std.specs.Prelude.{ℕ, ◌+◌, Bool, true, false, List, leb}
+use Rattle.messages.specs.declared.Refused.{Refused}
+use Rattle.std.specs.Prelude.{ℕ, ◌+◌, Bool, true, false, List, leb, Option, Some, None, Result, Ok, Err}
 use Rattle.grammar.specs.Grammar as grammar
 use Rattle.tape.specs.Pick.{pick}
 use Rattle.tape.specs.Layouts.{area_layout}
@@ -17,52 +18,46 @@ use Rattle.messages.specs.Reason.{refused_at}
 use Rattle.messages.specs.declared.Reason.{Reason}
 use Rattle.messages.specs.declared.Reason.TheVariants.{UnknownMacro, CedarInCondition, CedarInValue, ValueAsCondition, ConditionAsValue}
 use Rattle.registry.specs.Places.{get_at}
-use Rattle.registry.specs.declared.Found as registry
-use Rattle.registry.specs.declared.Found.TheVariants as found
 use Rattle.walk_state.specs.Writing as one
 use Rattle.walk_state.specs.Writing.{state}
 use Rattle.subst_call.specs.Front.{on_macro, macro_from, refuse_too_large_in, call_in}
 use Rattle.subst_call.specs.declared.Macro.{Macro}
-use Rattle.subst_call.specs.declared.MacroRead.{MacroRead}
-use Rattle.subst_call.specs.declared.MacroRead.TheVariants as macro
 use Rattle.walk_state.specs.declared.writing.State.{State}
 use Rattle.walk_state.specs.declared.writing.Walk.{Walk}
 use Rattle.walk_state.specs.declared.writing.Walk.TheVariants as walk
 use Rattle.expand_calls.specs.Output.{Reads, Progress, progress, after, on_work}
-use Rattle.expand_calls.specs.declared.Callee.{Callee}
-use Rattle.expand_calls.specs.declared.Callee.TheVariants as callee
 
 -- ------------------------------------------------------------------ the macro that is called
 
-abbrev pub on_found : {A : Type 0} → A → (Heading → Place → ℕ → A) → registry.Found → A
-on_found none f found.Nothing = none
-on_found none f (found.Definition head params end) = f head params end
+abbrev pub on_found : {A : Type 0} → A → (Heading → Place → ℕ → A) → Option (Heading × Place × ℕ) → A
+on_found none f None = none
+on_found none f (Some (head, params, end)) = f head params end
 
 module _ (R : Reads) where
-  unfoldable pub resolve_in : Heading → MacroRead
+  unfoldable pub resolve_in : Heading → Option Macro
   resolve_in call =
-      on_found macro.Nothing (macro_from R.registry R.definitions)
+      on_found None (macro_from R.registry R.definitions)
       (get_at R.registry R.definitions R.places (name_at R.condition R.layout call.name))
 
-  abbrev pub refused_call : Heading → (Name → Reason) → Callee
-  refused_call call reason = callee.Refused (refused_at call.span (reason call.name))
+  abbrev pub refused_call : Heading → (Name → Reason) → Result Macro Refused
+  refused_call call reason = Err (refused_at call.span (reason call.name))
 
   -- 30, 31 or 32
-  abbrev pub on_condition_kind : Heading → Macro → BodyNode → Callee
-  on_condition_kind call def body.Condition = callee.Macro def
+  abbrev pub on_condition_kind : Heading → Macro → BodyNode → Result Macro Refused
+  on_condition_kind call def body.Condition = Ok def
   on_condition_kind call def body.Cedar = refused_call call CedarInCondition
   on_condition_kind call def body.Value = refused_call call ValueAsCondition
 
-  unfoldable pub condition_macro_in : Heading → Callee
+  unfoldable pub condition_macro_in : Heading → Result Macro Refused
   condition_macro_in call = on_macro (refused_call call UnknownMacro) (λ def. on_condition_kind call def def.kind) (resolve_in call)
 
   -- 30, 31 or 33
-  abbrev pub on_value_kind : Heading → Macro → BodyNode → Callee
-  on_value_kind call def body.Value = callee.Macro def
+  abbrev pub on_value_kind : Heading → Macro → BodyNode → Result Macro Refused
+  on_value_kind call def body.Value = Ok def
   on_value_kind call def body.Cedar = refused_call call CedarInValue
   on_value_kind call def body.Condition = refused_call call ConditionAsValue
 
-  unfoldable pub value_macro_in : Heading → Callee
+  unfoldable pub value_macro_in : Heading → Result Macro Refused
   value_macro_in call = on_macro (refused_call call UnknownMacro) (λ def. on_value_kind call def def.kind) (resolve_in call)
 
   abbrev pub is_value : BodyNode → Bool

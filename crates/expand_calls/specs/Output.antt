@@ -1,6 +1,6 @@
 -- The state of an expansion with the two slices that it writes to, and the condition's own entries in its output.
 -- Assumes nothing.
-use Rattle.std.specs.Prelude.{ℕ, List, [], ◌∷◌, get_or}
+use Rattle.std.specs.Prelude.{ℕ, List, [], ◌∷◌, get_or, Result, Ok, Err}
 use Rattle.grammar.specs.Grammar as grammar
 use Rattle.nodes.specs.Node.{by_code, on_entry, on_value, entry_at, expect_at}
 use Rattle.tape.specs.Scan.{skip_at}
@@ -8,8 +8,6 @@ use Rattle.tape.specs.declared.layout.Layout.{Layout}
 use Rattle.tape.specs.declared.layout.Place.{Place}
 use Rattle.area.specs.Area.{area_in}
 use Rattle.messages.specs.declared.Refused.{Refused}
-use Rattle.walk_state.specs.declared.reading.Checked.{Checked}
-use Rattle.walk_state.specs.declared.reading.Checked.TheVariants as checked
 use Rattle.registry.specs.Places.{Row, rows_in}
 use Rattle.walk_state.specs.Writing as one
 use Rattle.walk_state.specs.Writing.{state, going, without_message_at}
@@ -83,15 +81,15 @@ on_work f X = with X.result (f (one.progress X.walk X.work))
 
 module _ (cond : List ℕ) (l : Layout) where
   -- up to the place where a check came, or its refusal
-  unfoldable pub copy_own_in : State → Checked → List ℕ → one.Progress
-  copy_own_in st (checked.Passed next) work =
+  unfoldable pub copy_own_in : State → Result Place Refused → List ℕ → one.Progress
+  copy_own_in st (Ok next) work =
       going next st.charged (copy_in cond l st.place next (area_in st.out work))
-  copy_own_in st (checked.Refused f) work = one.stop f st work
+  copy_own_in st (Err f) work = one.stop f st work
 
   -- the same behind a walk; a refusal of the check comes before one of the walk, with what was charged before it
-  unfoldable pub copy_own_after_in : Checked → ℕ → one.Progress → one.Progress
-  copy_own_after_in (checked.Passed next) charged X = one.after (λ st work. copy_own_in st (checked.Passed next) work) X
-  copy_own_after_in (checked.Refused f) charged X = one.progress (walk.Refused f charged) X.bytes
+  unfoldable pub copy_own_after_in : Result Place Refused → ℕ → one.Progress → one.Progress
+  copy_own_after_in (Ok next) charged X = one.after (λ st work. copy_own_in st (Ok next) work) X
+  copy_own_after_in (Err f) charged X = one.progress (walk.Refused f charged) X.bytes
 
   -- ------------------------------------------------------------------ refinements
 

@@ -8,95 +8,91 @@ ghost use Rattle.expand_calls.specs.Calls.{resolve_in, condition_macro_in, value
 
 use crate::output::Context;
 use area::{Writer, append_out, empty};
+use grammar::code;
 use grammar::codes::CALL;
 use messages::{Reason, Refused, refuse};
-use nodes::{BodyNode, Heading, HeadingRead, ValueRead, expect, name_at, read_heading};
-use registry::{Found, get};
-use subst_call::{Macro, MacroRead, macro_from, refuse_too_large, substitute_call};
+use nodes::{BodyNode, Heading, expect, name_at, read_heading};
+use registry::get;
+use subst_call::{Macro, macro_from, refuse_too_large, substitute_call};
 use tape::layout::{Place, of_area};
 use walk_state::writing::{State, Walk};
 
 pub mod output;
 
-// The macro that a call may use in its place, or the refusal of the call.
-#[derive(Clone, Copy)]
-pub enum Callee {
-    Macro(Macro),
-    Refused(Refused),
-}
-
 // The macro that a call names.
-fn resolve(reg: &[u8], places: &[usize], cond: &[u8], x: Context, call: Heading) -> MacroRead
+#[tactic(auto, unfolding(crate::specs::Calls::resolve_in))]
+fn resolve(reg: &[u8], places: &[usize], cond: &[u8], x: Context, call: Heading) -> Option<Macro>
     ensures { result ≡ resolve_in (reads reg.now places.now cond.now x) call }
 {
     let name = name_at(cond, x.condition, call.name);
-    let Found::Definition(head, params, end) = get(reg, x.registry, places, x.count, name) else {
-        return MacroRead::Nothing;
-    };
+    let (head, params, end) = get(reg, x.registry, places, x.count, name)?;
     macro_from(reg, x.registry, head, params, end)
 }
 
 // 30, 31 or 32, unless the call names a condition macro.
+#[tactic(auto, unfolding(crate::specs::Calls::condition_macro_in))]
 pub fn condition_macro(
     reg: &[u8],
     places: &[usize],
     cond: &[u8],
     x: Context,
     call: Heading,
-) -> Callee
+) -> Result<Macro, Refused>
     ensures { result ≡ condition_macro_in (reads reg.now places.now cond.now x) call }
 {
     let name = call.name;
-    let MacroRead::Macro(def) = resolve(reg, places, cond, x, call) else {
-        return Callee::Refused(refuse(call.span, Reason::UnknownMacro(name)));
+    let Some(def) = resolve(reg, places, cond, x, call) else {
+        return Err(refuse(call.span, Reason::UnknownMacro(name)));
     };
-    let kind = def.kind;
-    match kind {
-        BodyNode::Condition => Callee::Macro(def),
-        BodyNode::Cedar => Callee::Refused(refuse(call.span, Reason::CedarInCondition(name))),
-        BodyNode::Value => Callee::Refused(refuse(call.span, Reason::ValueAsCondition(name))),
+    match def.kind {
+        BodyNode::Condition => Ok(def),
+        BodyNode::Cedar => Err(refuse(call.span, Reason::CedarInCondition(name))),
+        BodyNode::Value => Err(refuse(call.span, Reason::ValueAsCondition(name))),
     }
 }
 
 // 30, 31 or 33, unless the call names a value macro.
-pub fn value_macro(reg: &[u8], places: &[usize], cond: &[u8], x: Context, call: Heading) -> Callee
+#[tactic(auto, unfolding(crate::specs::Calls::value_macro_in))]
+pub fn value_macro(
+    reg: &[u8],
+    places: &[usize],
+    cond: &[u8],
+    x: Context,
+    call: Heading,
+) -> Result<Macro, Refused>
     ensures { result ≡ value_macro_in (reads reg.now places.now cond.now x) call }
 {
     let name = call.name;
-    let MacroRead::Macro(def) = resolve(reg, places, cond, x, call) else {
-        return Callee::Refused(refuse(call.span, Reason::UnknownMacro(name)));
+    let Some(def) = resolve(reg, places, cond, x, call) else {
+        return Err(refuse(call.span, Reason::UnknownMacro(name)));
     };
-    let kind = def.kind;
-    match kind {
-        BodyNode::Value => Callee::Macro(def),
-        BodyNode::Cedar => Callee::Refused(refuse(call.span, Reason::CedarInValue(name))),
-        BodyNode::Condition => Callee::Refused(refuse(call.span, Reason::ConditionAsValue(name))),
+    match def.kind {
+        BodyNode::Value => Ok(def),
+        BodyNode::Cedar => Err(refuse(call.span, Reason::CedarInValue(name))),
+        BodyNode::Condition => Err(refuse(call.span, Reason::ConditionAsValue(name))),
     }
 }
 
 // Whether the condition at a place is a bare call of a value macro.
+#[tactic(auto, unfolding(crate::specs::Calls::calls_value_in))]
 pub fn calls_value(reg: &[u8], places: &[usize], cond: &[u8], x: Context, p: Place) -> bool
     ensures { result ≡ calls_value_in (reads reg.now places.now cond.now x) p }
 {
-    let ValueRead::Value(_, call) = expect(cond, x.condition, p, 11) else {
+    let Some((_, call)) = expect(cond, x.condition, p, code::CALL) else {
         return false;
     };
-    let HeadingRead::Node(head, _) = read_heading(cond, x.condition, call, 54) else {
+    let Ok((head, _)) = read_heading(cond, x.condition, call, code::CALLED) else {
         return false;
     };
-    let MacroRead::Macro(def) = resolve(reg, places, cond, x, head) else {
+    let Some(def) = resolve(reg, places, cond, x, head) else {
         return false;
     };
-    let kind = def.kind;
-    match kind {
-        BodyNode::Value => true,
-        BodyNode::Cedar => false,
-        BodyNode::Condition => false,
-    }
+    matches!(def.kind, BodyNode::Value)
 }
 
 // The area of the next level, with nothing in it. Calls nest in one another four deep at the most, so the work buffer has it. A base
 // behind every buffer stays as it is, so that the sum has an answer for every writer.
+#[tactic(auto, unfolding(crate::specs::Calls::above))]
 pub fn level_above(out: Writer) -> Writer
     ensures { result ≡ above out }
 {
@@ -108,6 +104,7 @@ pub fn level_above(out: Writer) -> Writer
 
 // The substitution of a call that stands in the work buffer, into the area at the start of the result buffer. Its arguments stand
 // behind its 54, its name and its list.
+#[tactic(auto, unfolding(crate::specs::Calls::apply_in))]
 fn apply<'a>(
     reg: &'a [u8],
     work: &'a [u8],
@@ -143,6 +140,7 @@ fn apply<'a>(
 }
 
 // What a call became, behind what its level holds already.
+#[tactic(auto, unfolding(crate::specs::Calls::into_in))]
 fn into_level(work: &mut [u8], res: &[u8], out: Writer, next: Place, w: Walk) -> Walk
     ensures { progress result work.new res.now ≡ into_in out next work.old (one.progress w res.now) }
 {
@@ -158,6 +156,7 @@ fn into_level(work: &mut [u8], res: &[u8], out: Writer, next: Place, w: Walk) ->
 }
 
 // A call whose arguments are expanded, at the level above `out`: 3 if it is too large; then the substitution.
+#[tactic(auto, unfolding(crate::specs::Calls::outcome_in))]
 pub fn outcome(
     reg: &[u8],
     work: &mut [u8],

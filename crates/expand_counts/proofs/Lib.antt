@@ -1,5 +1,5 @@
 -- The laws that several proofs of the crate cite, and those that the crates above cite.
-mod Steps
+pub mod Steps
 pub mod Adding
 mod Raising
 mod Items

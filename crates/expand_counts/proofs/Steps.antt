@@ -1,76 +1,54 @@
 -- One law for each way a function of the crate returns, from what the code learnt to the definition that the contract cites.
 -- Assumes nothing.
+use Rattle.std.proofs.Common.{Some, None}
 use Prim.Native.Nat.{ℕ, zero, suc, ◌+◌, ◌*◌, ◌-◌, ◌/◌, ◌%◌, ◌≤◌, ◌<◌, min}
 use native.Mathlib.Omega.{arith}
 use native.Mathlib.Nat.{sub-zero, add-zero}
 use native.Mathlib.Numerals.{add-one}
 use mathlib.Core.Path.{◌≡◌, refl, sym, ap, ◌∙◌}
-use mathlib.Core.Logic.{◌⊎◌, inl, inr, ⊎_elim}
 use mathlib.Core.List.{List, [], ◌∷◌, ◌++◌, append-nil}
 use mathlib.Core.Bool.{Bool, true, false}
 use lib.Dec.{leb, eqb}
-use lib.ListN.{length, take, drop, get_or, set, length-drop, take-append-drop, drop_of_length-le}
-use lib.Seq.{take_all, drop-cons, drop-drop, get_or-drop, append_snoc, take-suc-set, drop-set-lt, set-get_or}
+use lib.ListN.{length, take, drop, get_or, set, take-append-drop, drop_of_length-le}
+use lib.Seq.{take_all, drop-cons, get_or-drop, append_snoc, take-suc-set, drop-set-lt, set-get_or}
 use borrow.Author.Tests.{leb-true, leb-false, lt-leb, le-leb, eq-eqb, ne_eqb}
 use Rattle.format.specs.Entry.{Text}
 use Rattle.format.specs.Limits.{weigh}
 use Rattle.format.specs.Stands.{part}
 use Rattle.format.proofs.Stands.{part_cons}
 use Rattle.format.specs.Tape.{is_text, text_width}
-use Rattle.definition.specs.Text.{eq_text}
 use Rattle.tape.specs.Pick.{pick}
 use Rattle.tape.specs.Flat.{sum_of, weight_of}
 use Rattle.tape.specs.Layouts.{holds, code_at, value_at, width_at, onward}
 use Rattle.tape.specs.declared.layout.Layout.{Layout}
 use Rattle.tape.specs.declared.layout.Place.{Place}
 use Rattle.tape.proofs.Runs.{place}
-use Rattle.nodes.specs.Node.{expect_at, named, name_at}
-use Rattle.nodes.specs.declared.ValueRead.{ValueRead}
-use Rattle.nodes.specs.declared.ValueRead.TheVariants.{Value, Nothing}
+use Rattle.nodes.specs.Node.{expect_at, name_at}
 use Rattle.registry.specs.Places.{Row, origin, key_of, first_row, rows_in}
-use Rattle.definition.specs.Counts.{ceiling}
-use Rattle.expand_counts.specs.Counting.{name_behind_at, is_named, raised, raised_at, passing, few, over_at, brought_by, passed_at, counted_at, count_from, counted_in}
+use Rattle.expand_counts.specs.Counting.{name_behind_at, is_named, raised, raised_at, passing, few, passed_at, counted_at, count_from, counted_in}
 use Rattle.expand_counts.specs.declared.Passing.{Passing}
-use Rattle.registry.proofs.Tables.{table_ends, rows_left, no_rows}
+use Rattle.registry.proofs.Tables.{row_next, rows_done}
+use Rattle.nodes.proofs.Texts.{equal_texts}
+use lib.Pointwise.{pointwise}
+use Rattle.std.proofs.Common.{nat_eq}
 
 -- ------------------------------------------------------------------ a name that is called
 
-module _ (s : List ℕ) (l : Layout) (p : Place) {x : ValueRead} (e : x ≡ expect_at s l (place (p.at + 1) p.text) 40) where
-  behind : x ≡ expect_at s l (onward p 0) 40
-  behind = e ∙ ap (λ (t : ℕ). expect_at s l (place (p.at + 1) t) 40) (sym (add-zero p.text))
+module _ (s : List ℕ) (l : Layout) (p : Place) where
+  behind : expect_at s l (onward p 0) 40 ≡ expect_at s l (place (p.at + 1) p.text) 40
+  behind = ap (λ (t : ℕ). expect_at s l (place (p.at + 1) t) 40) (add-zero p.text)
 
-  pub name_missing : x ≡ Nothing → [] ≡ name_behind_at s l p
+  pub name_missing : expect_at s l (place (p.at + 1) p.text) 40 ≡ None → name_behind_at s l p ≡ []
   unfolding name_behind_at
-  name_missing q = rw (← behind, q)
+  name_missing q = rw (behind, q)
 
-  pub name_read : {size : ℕ} {next : Place} {u : Text} → x ≡ Value size next → u ≡ name_at s l (named p size) → u ≡ name_behind_at s l p
+  pub name_read : {size : ℕ} {next : Place} → expect_at s l (place (p.at + 1) p.text) 40 ≡ Some (size, next)
+      → name_behind_at s l p ≡ name_at s l (record { text = p.text; size = size })
   unfolding name_behind_at
-  name_read {size} q r = rw (← behind, q) (r ∙ ap (λ (t : ℕ). name_at s l (record { text = t; size = size })) (sym (add-zero p.text)))
-
-module _ (reg : List ℕ) (d : Layout) (r : Row) (name : Text) {key : ℕ} (k : key ≡ key_of name) where
-  pub named_otherwise : (r.key ≡ key → ⊥) → false ≡ is_named reg d r name
-  unfolding is_named
-  named_otherwise h = rw (← k, ne_eqb r.key key h)
-
-  pub named_by : {u : Text} {b : Bool} → r.key ≡ key → u ≡ name_behind_at reg d r.place → b ≡ eq_text u name → b ≡ is_named reg d r name
-  unfolding is_named
-  named_by h e q = rw (← k, eq-eqb r.key key h, ← e) q
-
--- ------------------------------------------------------------------ counts
-
-pub full_stays : (k : ℕ) → k ≡ 4294967295 → 4294967295 ≡ raised k
-unfolding ceiling
-full_stays k h = omega arith
-
-pub one_more : (k : ℕ) → (k ≡ 4294967295 → ⊥) → k < 4294967296 → k + 1 ≡ raised k
-unfolding ceiling
-one_more k h b = let e : k < 4294967295 = below k h b in omega arith
-  where
-    below : (k : ℕ) → (k ≡ 4294967295 → ⊥) → k < 4294967296 → k < 4294967295
-    below k h b = omega arith
+  name_read {size} q = rw (behind, q) (ap (λ (t : ℕ). name_at s l (record { text = t; size = size })) (add-zero p.text))
 
 -- a row of a table
-pub row_is : (places : List ℕ) (i : ℕ)
+row_is : (places : List ℕ) (i : ℕ)
     → first_row (drop (2 * i) places)
     ≡ record { place = place (get_or places (2 * i) 0 % 2048) (get_or places (2 * i + 1) 0); key = get_or places (2 * i) 0 / 2048 }
 unfolding first_row
@@ -79,68 +57,70 @@ row_is places i =
     get_or-drop (2 * i) places 0 0 ∙ ap (λ (n : ℕ). get_or places n 0) (add-zero (2 * i)) in
     rw (zero_on, get_or-drop (2 * i) places 1 0)
 
-least : (a b c i : ℕ) → min a (min b c) ≤ i → (a ≤ i) ⊎ ((b ≤ i) ⊎ (c ≤ i))
-least a b c i h = go (leb a i) (leb b i) refl refl
-  where
-    go : (x y : Bool) → leb a i ≡ x → leb b i ≡ y → (a ≤ i) ⊎ ((b ≤ i) ⊎ (c ≤ i))
-    go true y e q = inl (leb-true a i e)
-    go false true e q = inr (inl (leb-true b i q))
-    go false false e q = inr (inr (omega (arith, leb-false a i e, leb-false b i q)))
+-- the row of a definition, of which the name's key is known
+module _ (reg : List ℕ) (d : Layout) (places : List ℕ) (i : ℕ) (name : Text) {key : ℕ} (k : key ≡ key_of name) where
+  pub named_otherwise : (get_or places (2 * i) 0 / 2048 ≡ key → ⊥) → is_named reg d (first_row (drop (2 * i) places)) name ≡ false
+  unfolding is_named
+  named_otherwise h = rw (row_is places i, ← k, ne_eqb (get_or places (2 * i) 0 / 2048) key h)
+
+  pub named_by : get_or places (2 * i) 0 / 2048 ≡ key
+      → is_named reg d (first_row (drop (2 * i) places)) name
+      ≡ pointwise nat_eq (name_behind_at reg d (place (get_or places (2 * i) 0 % 2048) (get_or places (2 * i + 1) 0))) name
+  unfolding is_named
+  named_by h =
+      let p : Place = place (get_or places (2 * i) 0 % 2048) (get_or places (2 * i + 1) 0) in
+      rw (row_is places i, ← k, eq-eqb (get_or places (2 * i) 0 / 2048) key h) (sym (equal_texts (name_behind_at reg d p) name))
+
+-- ------------------------------------------------------------------ counts
+
+-- a count behind the row of its definition
+abbrev pub counted_row : List ℕ → Layout → List ℕ → (i : ℕ) → Text → ℕ → ℕ
+counted_row reg d places i name k = pick (is_named reg d (first_row (drop (2 * i) places)) name) (raised k) k
+
+-- a count that is stored as it was
+pub same_count : (ks : List ℕ) (i : ℕ) → i < length ks → set ks i (get_or ks i 0) ≡ ks
+same_count ks i h = set-get_or ks i 0
 
 -- the counts before i are done, and the rows that are left are those of the others
-module _ (reg : List ℕ) (d : Layout) (name : Text) (places ks : List ℕ) (i count : ℕ) {whole : List ℕ}
-    (inv : take i ks ++ raised_at reg d (rows_in (drop (2 * i) places) (count - i)) name (drop i ks) ≡ whole) where
-  no_more : rows_in (drop (2 * i) places) (count - i) ≡ [] → ks ≡ whole
-  unfolding raised_at
-  no_more e = sym (take-append-drop i ks) ∙ (rw e at inv)
+module _ (reg : List ℕ) (d : Layout) (name : Text) (places ks : List ℕ) (i count : ℕ) where
+  left : List ℕ
+  left = take i ks ++ raised_at reg d (rows_in (drop (2 * i) places) (count - i)) name (drop i ks)
 
-  count_full : length ks ≤ i → ks ≡ whole
-  unfolding raised_at
+  count_full : length ks ≤ i → left ≡ ks
+  unfolding raised_at left
   count_full h =
-      sym (take_all i ks h) ∙ sym (append-nil (take i ks)) ∙ ap (λ (vs : List ℕ). take i ks ++ vs) (sym (none (rows_in (drop (2 * i) places) (count - i))))
-      ∙ (rw (drop_of_length-le ks {i = i} h) at inv)
+      rw (drop_of_length-le ks {i = i} h, none (rows_in (drop (2 * i) places) (count - i)), append-nil (take i ks)) (take_all i ks h)
     where
       none : (rs : List Row) → raised_at reg d rs name [] ≡ []
       none [] = refl
       none (r ∷ rs) = refl
 
-  pub count_done : {n size : ℕ} → n ≡ min count (min (length places / 2) size) → length ks ≡ size → n ≤ i → ks ≡ whole
-  count_done e q h =
-      ⊎_elim (λ k. no_more (no_rows (drop (2 * i) places) {n = count - i} (omega arith)))
-      (⊎_elim (λ k. no_more (table_ends (drop (2 * i) places) (count - i) (omega (arith, length-drop (2 * i) places)))) count_full)
-      (least count (length places / 2) (length ks) i (omega arith))
+  pub count_done : min (min count (length places / 2)) (length ks) ≤ i
+      → take i ks ++ raised_at reg d (rows_in (drop (2 * i) places) (count - i)) name (drop i ks) ≡ ks
+  unfolding raised_at left
+  count_done h = go (leb (length ks) i) refl
+    where
+      go : (b : Bool) → leb (length ks) i ≡ b → left ≡ ks
+      go true e = count_full (leb-true (length ks) i e)
+      go false e =
+          let k : i < length ks = leb-false (length ks) i e in
+          rw (rows_done places count i (omega arith)) (take-append-drop i ks)
 
-  module _ {n size : ℕ} (m : n ≡ min count (min (length places / 2) size)) (q : length ks ≡ size) (h : i < n) {b : Bool}
-      (e : b ≡ is_named reg d (first_row (drop (2 * i) places)) name) where
-    -- the rows behind this one
-    others : List Row
-    others = rows_in (drop (2 * (i + 1)) places) (count - (i + 1))
-
-    goes_on : take i ks ++ pick b (raised (get_or ks i 0)) (get_or ks i 0) ∷ raised_at reg d others name (drop (suc i) ks) ≡ whole
-    unfolding raised_at others
-    goes_on =
-        let left : count - i - 1 ≡ count - (i + 1) = omega arith in
-        let next : 2 * i + 2 ≡ 2 * (i + 1) = omega arith in
-        let k : 2 ≤ length (drop (2 * i) places) = omega (arith, length-drop (2 * i) places) in
-        let room : i < length ks = omega arith in
-        rw (rows_left (drop (2 * i) places) {n = count - i} (omega arith) k, drop-cons ks i 0 room, left, ← e, drop-drop 2 (2 * i) places, next) at inv
-
-    -- one count more is done
-    stored : (v : ℕ) → take i ks ++ v ∷ raised_at reg d others name (drop (suc i) ks) ≡ whole
-        → take (i + 1) (set ks i v) ++ raised_at reg d others name (drop (i + 1) (set ks i v)) ≡ whole
-    stored v g =
-        let room : i < length ks = omega arith in
-        rw (add-one i, take-suc-set ks i v room, drop-set-lt (suc i) ks i v (omega arith), append_snoc (take i ks) v (raised_at reg d others name (drop (suc i) ks))) g
-
-    pub count_raised : {ks' : List ℕ} → b ≡ true → ks' ≡ set ks i (raised (get_or ks i 0))
-        → take (i + 1) ks' ++ raised_at reg d (rows_in (drop (2 * (i + 1)) places) (count - (i + 1))) name (drop (i + 1) ks') ≡ whole
-    unfolding others
-    count_raised t v = rw v (stored (raised (get_or ks i 0)) (rw t at goes_on))
-
-    pub count_kept : {ks' : List ℕ} → b ≡ false → ks' ≡ ks
-        → take (i + 1) ks' ++ raised_at reg d (rows_in (drop (2 * (i + 1)) places) (count - (i + 1))) name (drop (i + 1) ks') ≡ whole
-    unfolding others
-    count_kept t v = rw v (rw (set-get_or ks i 0) at (stored (get_or ks i 0) (rw t at goes_on)))
+  pub count_turn : i < min (min count (length places / 2)) (length ks)
+      → take i ks ++ raised_at reg d (rows_in (drop (2 * i) places) (count - i)) name (drop i ks)
+      ≡ take (i + 1) (set ks i (counted_row reg d places i name (get_or ks i 0)))
+      ++ raised_at reg d (rows_in (drop (2 * (i + 1)) places) (count - (i + 1))) name (drop (i + 1) (set ks i (counted_row reg d places i name (get_or ks i 0))))
+  unfolding raised_at
+  count_turn h =
+      let v : ℕ = counted_row reg d places i name (get_or ks i 0) in
+      let others : List Row = rows_in (drop (2 * (i + 1)) places) (count - (i + 1)) in
+      let room : i < length ks = omega arith in
+      let this : take i ks ++ raised_at reg d (rows_in (drop (2 * i) places) (count - i)) name (drop i ks) ≡ take i ks ++ v ∷ raised_at reg d others name (drop (suc i) ks) =
+      rw (row_next places count i (omega arith) (omega arith), drop-cons ks i 0 room) in
+      let stored : take (i + 1) (set ks i v) ++ raised_at reg d others name (drop (i + 1) (set ks i v)) ≡ take i ks ++ v ∷ raised_at reg d others name (drop (suc i) ks) =
+      ap (λ (n : ℕ). take n (set ks i v) ++ raised_at reg d others name (drop n (set ks i v))) (add-one i)
+      ∙ rw (take-suc-set ks i v room, drop-set-lt (suc i) ks i v (omega arith), append_snoc (take i ks) v (raised_at reg d others name (drop (suc i) ks))) in
+      this ∙ sym stored
 
 pub count_start : (reg : List ℕ) (d : Layout) (name : Text) (places ks : List ℕ) (count : ℕ)
     → take 0 ks ++ raised_at reg d (rows_in (drop (2 * 0) places) (count - 0)) name (drop 0 ks) ≡ raised_at reg d (rows_in places count) name ks
@@ -154,54 +134,32 @@ few_large v h = rw (lt-leb v 1024 h)
 pub few_small : (v : ℕ) → v ≤ 1024 → v ≡ few v
 few_small v h = rw (le-leb v 1024 h)
 
-module _ (s : List ℕ) (l : Layout) (p : Place) (w : Passing) (code value : ℕ) where
-  pub over_passed : 0 < w.over → passing (w.over - 1) w.items ≡ passed_at s l p w code value
-  unfolding passed_at
-  over_passed h = rw (ne_eqb w.over 0 (λ e. omega arith))
-
-  pub open_passed : {o b : ℕ} → w.over ≤ 0 → o ≡ over_at s l p w.items code value → b ≡ brought_by w.items code value
-      → passing o (w.items - 1 + b) ≡ passed_at s l p w code value
-  unfolding passed_at
-  open_passed h e q = rw (eq-eqb w.over 0 (omega arith), e, q)
-
-module _ (reg : List ℕ) (d : Layout) (rows : List Row) (s : List ℕ) (l : Layout) (p : Place) (w : Passing) (code : ℕ) (ks : List ℕ) where
-  pub over_counted : 0 < w.over → ks ≡ counted_at reg d rows s l p w code ks
-  unfolding counted_at
-  over_counted h = rw (ne_eqb w.over 0 (λ e. omega arith))
-
-  pub call_counted : {u : Text} {ks' : List ℕ} → w.over ≤ 0 → code ≡ 54 → u ≡ name_behind_at s l p → ks' ≡ raised_at reg d rows u ks
-      → ks' ≡ counted_at reg d rows s l p w code ks
-  unfolding counted_at
-  call_counted h c e q = rw (eq-eqb w.over 0 (omega arith), eq-eqb code 54 c, ← e) q
-
-  pub other_counted : w.over ≤ 0 → (code ≡ 54 → ⊥) → ks ≡ counted_at reg d rows s l p w code ks
-  unfolding counted_at
-  other_counted h c = rw (eq-eqb w.over 0 (omega arith), ne_eqb code 54 c)
-
 -- ------------------------------------------------------------------ entry by entry
 
 module _ (reg : List ℕ) (d : Layout) (rows : List Row) (s : List ℕ) (l : Layout) where
-  module _ (at text : ℕ) (w : Passing) (ks : List ℕ) {whole : List ℕ} (inv : count_from reg d rows s l (l.entries - at) (place at text) w ks ≡ whole) where
-    pub entries_done : l.entries ≤ at → ks ≡ whole
+  module _ (at text : ℕ) (w : Passing) (ks : List ℕ) where
+    pub entries_done : l.entries ≤ at → count_from reg d rows s l (l.entries - at) (place at text) w ks ≡ ks
     unfolding count_from
-    entries_done h = let e : l.entries - at ≡ 0 = omega arith in rw e at inv
+    entries_done h = let e : l.entries - at ≡ 0 = omega arith in rw e
 
     module _ {code value width : ℕ} (h : at < l.entries) (c : code ≡ code_at s l at) (v : value ≡ value_at s l at)
         (t : width ≡ text_width (is_text code) value) (k : text ≤ l.size) where
-      turned : pick (leb (text + width) l.size)
+      turned : count_from reg d rows s l (l.entries - at) (place at text) w ks
+          ≡ pick (leb (text + width) l.size)
           (count_from reg d rows s l (l.entries - (at + 1)) (place (at + 1) (text + width)) (passed_at s l (place at text) w code value)
           (counted_at reg d rows s l (place at text) w code ks))
-          ks ≡ whole
+          ks
       unfolding count_from
-      turned = let n : l.entries - at ≡ suc (l.entries - (at + 1)) = omega arith in rw (n, ← c, ← v, ← t) at inv
+      turned = let n : l.entries - at ≡ suc (l.entries - (at + 1)) = omega arith in rw (n, ← c, ← v, ← t)
 
-      pub entry_long : l.size - text < width → ks ≡ whole
-      entry_long g = rw (lt-leb (text + width) l.size (omega arith)) at turned
+      pub entry_long : l.size - text < width → count_from reg d rows s l (l.entries - at) (place at text) w ks ≡ ks
+      entry_long g = turned ∙ rw (lt-leb (text + width) l.size (omega arith))
 
       pub entry_taken : {w' : Passing} {ks' : List ℕ} → width ≤ l.size - text → w' ≡ passed_at s l (place at text) w code value
           → ks' ≡ counted_at reg d rows s l (place at text) w code ks
-          → count_from reg d rows s l (l.entries - (at + 1)) (place (at + 1) (text + width)) w' ks' ≡ whole
-      entry_taken g e q = rw (e, q) (rw (le-leb (text + width) l.size (omega arith)) at turned)
+          → count_from reg d rows s l (l.entries - at) (place at text) w ks
+          ≡ count_from reg d rows s l (l.entries - (at + 1)) (place (at + 1) (text + width)) w' ks'
+      entry_taken g e q = turned ∙ rw (e, q, le-leb (text + width) l.size (omega arith))
 
   pub entries_start : (ks : List ℕ)
       → count_from reg d rows s l (l.entries - 0) origin (passing 0 0) ks ≡ count_from reg d rows s l l.entries origin (passing 0 0) ks

@@ -1,3 +1,3 @@
 -- The laws that several proofs of the crate cite.
-mod StepsConcrete
+pub mod Terms
 pub mod TreesConcrete

@@ -1,5 +1,6 @@
 -- Where a part of a condition stands, the check for stray sigils answers what the definition says of it, and nothing is charged.
 -- Assumes nothing.
+use Rattle.std.proofs.Common.{Result, Ok, Err}
 use Prim.Native.Nat.{ℕ, zero, suc, ◌≤◌}
 use native.Mathlib.Omega.{arith}
 use mathlib.Core.Path.{◌≡◌, refl, sym, ap, subst, ◌∙◌}
@@ -41,10 +42,8 @@ use Rattle.tape.proofs.Trees.{passes_term}
 use Rattle.messages.specs.Reason.{number_of, message_of}
 use Rattle.messages.specs.declared.Reason.{Reason}
 use Rattle.messages.specs.declared.Reason.TheVariants.{StrayWithin, StraySlot, StrayField}
-use Rattle.messages.specs.declared.Refused.{Refused as RefusedBy}
+use Rattle.messages.specs.declared.Refused.{Refused}
 use Rattle.answer.specs.Matches.{RefusalMatches}
-use Rattle.walk_state.specs.declared.reading.Checked.{Checked}
-use Rattle.walk_state.specs.declared.reading.Checked.TheVariants.{Passed, Refused}
 use Rattle.walk_state.specs.Reading.{items_in, refused_in, passed_in, past_name_in}
 use Rattle.walk_state.proofs.Steps.{Strict, strict_items}
 use Rattle.expand_stray.specs.Concrete.{
@@ -64,27 +63,27 @@ use Rattle.expand_stray.specs.Concrete.{
 
 -- The answer x is what the outcome says, of a part of the condition that ends at a place; k was charged before, and still is. The
 -- registry's tape is s, laid out as d; the condition's, which the messages name, is t, laid out as c.
-pub data StrayMatches (s : List ℕ) (d : Layout) (t : List ℕ) (c : Layout) (k : ℕ) (x : Checked) (end : Place) : Outcome (Unit {0}) → Type 0 where
-  passes : x ≡ Passed end → StrayMatches s d t c k x end (Outcome.done tt k)
-  refuses : {f : RefusedBy} {r : Refusal} → x ≡ Refused f → RefusalMatches s d t c f r → StrayMatches s d t c k x end (Outcome.refused r k)
+pub data StrayMatches (s : List ℕ) (d : Layout) (t : List ℕ) (c : Layout) (k : ℕ) (x : Result Place Refused) (end : Place) : Outcome (Unit {0}) → Type 0 where
+  passes : x ≡ Ok end → StrayMatches s d t c k x end (Outcome.done tt k)
+  refuses : {f : Refused} {r : Refusal} → x ≡ Err f → RefusalMatches s d t c f r → StrayMatches s d t c k x end (Outcome.refused r k)
 
 module _ {s : List ℕ} {d : Layout} {t : List ℕ} {c : Layout} {k : ℕ} where
-  pub starting : {x y : Checked} {end : Place} {o : Outcome (Unit {0})} → x ≡ y → StrayMatches s d t c k y end o → StrayMatches s d t c k x end o
-  starting {x} {y} {end} {o} e h = subst (λ (z : Checked). StrayMatches s d t c k z end o) (sym e) h
+  pub starting : {x y : Result Place Refused} {end : Place} {o : Outcome (Unit {0})} → x ≡ y → StrayMatches s d t c k y end o → StrayMatches s d t c k x end o
+  starting {x} {y} {end} {o} e h = subst (λ (z : Result Place Refused). StrayMatches s d t c k z end o) (sym e) h
 
-  pub ending : {x : Checked} {end end' : Place} {o : Outcome (Unit {0})} → end ≡ end' → StrayMatches s d t c k x end' o → StrayMatches s d t c k x end o
+  pub ending : {x : Result Place Refused} {end end' : Place} {o : Outcome (Unit {0})} → end ≡ end' → StrayMatches s d t c k x end' o → StrayMatches s d t c k x end o
   ending {x} {end} {end'} {o} e h = subst (λ (p : Place). StrayMatches s d t c k x p o) (sym e) h
 
   -- a check after a check: the first refusal stands
-  pub chain : (f : Checked → Checked) → Strict f → {x : Checked} {mid end : Place} {o : Outcome (Unit {0})} (m : Walk (Unit {0}))
-      → StrayMatches s d t c k x mid o → StrayMatches s d t c k (f (Passed mid)) end (m k) → StrayMatches s d t c k (f x) end (proceed o (λ a. m))
+  pub chain : (f : Result Place Refused → Result Place Refused) → Strict f → {x : Result Place Refused} {mid end : Place} {o : Outcome (Unit {0})} (m : Walk (Unit {0}))
+      → StrayMatches s d t c k x mid o → StrayMatches s d t c k (f (Ok mid)) end (m k) → StrayMatches s d t c k (f x) end (proceed o (λ a. m))
   unfolding proceed
   chain f h m (passes e) q = starting (ap f e) q
   chain f h m (refuses e y) q = refuses (ap f e ∙ h _) y
 
   -- a way on that refuses nothing
-  pub goes_on : (f : Checked → Checked) → Strict f → {x : Checked} {mid end : Place} {o : Outcome (Unit {0})} → StrayMatches s d t c k x mid o
-      → f (Passed mid) ≡ Passed end → StrayMatches s d t c k (f x) end o
+  pub goes_on : (f : Result Place Refused → Result Place Refused) → Strict f → {x : Result Place Refused} {mid end : Place} {o : Outcome (Unit {0})} → StrayMatches s d t c k x mid o
+      → f (Ok mid) ≡ Ok end → StrayMatches s d t c k (f x) end o
   goes_on f h (passes e) q = passes (ap f e ∙ q)
   goes_on f h (refuses e y) q = refuses (ap f e ∙ h _) y
 
@@ -98,7 +97,7 @@ module _ {s : List ℕ} {d : Layout} {t : List ℕ} {c : Layout} where
   -- ------------------------------------------------------------------ withins, slots and binders
 
   pub within_concrete : (w : WithinSpec) (span k : ℕ) {p : Place} → Inside t c p (flat_within w ∷ [])
-      → StrayMatches s d t c k (concrete_within_in t c span (Passed p)) (past (flat_within w ∷ []) p) (check_concrete_within w span k)
+      → StrayMatches s d t c k (concrete_within_in t c span (Ok p)) (past (flat_within w ∷ []) p) (check_concrete_within w span k)
   unfolding concrete_within_in check_concrete_within message_of
   within_concrete (WithinSpec.Concrete i) span k h = rw (parts_within (WithinSpec.Concrete i) h) (passes refl)
   within_concrete (WithinSpec.ParamRef n) span k h =
@@ -106,7 +105,7 @@ module _ {s : List ℕ} {d : Layout} {t : List ℕ} {c : Layout} where
       rw v.read (stray span (StrayWithin v.name) (ap stray_within v.spelled))
 
   pub slot_concrete : (v : BinderSlot) (span k : ℕ) {p : Place} → Inside t c p (flat_slot v ∷ [])
-      → StrayMatches s d t c k (concrete_slot_in t c span (Passed p)) (past (flat_slot v ∷ []) p) (check_concrete_slot v span k)
+      → StrayMatches s d t c k (concrete_slot_in t c span (Ok p)) (past (flat_slot v ∷ []) p) (check_concrete_slot v span k)
   unfolding concrete_slot_in check_concrete_slot message_of
   slot_concrete (BinderSlot.Name n) span k h = rw (parts_slot (BinderSlot.Name n) h).read (passes refl)
   slot_concrete (BinderSlot.ParamRef n) span k h =
@@ -119,13 +118,13 @@ module _ {s : List ℕ} {d : Layout} {t : List ℕ} {c : Layout} where
   -- a slot, and its type behind it
   pub binder_concrete : (b : TypedBinder) (span k : ℕ) {p : Place} → Inside t c p (flat_slot b.slot ∷ [])
       → Inside t c (past (flat_slot b.slot ∷ []) p) (flat_type b.ty)
-      → StrayMatches s d t c k (concrete_binder_in t c span (Passed p)) (past (flat_type b.ty) (past (flat_slot b.slot ∷ []) p))
+      → StrayMatches s d t c k (concrete_binder_in t c span (Ok p)) (past (flat_type b.ty) (past (flat_slot b.slot ∷ []) p))
       (check_concrete_slot b.slot span k)
   unfolding concrete_binder_in passed_in
   binder_concrete b span k h q = goes_on (type_in t c) (λ r. refl) (slot_concrete b.slot span k h) (rw (past_type b.ty q))
 
   each_binder : (bs : List TypedBinder) (span k : ℕ) {p : Place} → Inside t c p (flat_binders bs)
-      → StrayMatches s d t c k (items_in (concrete_binder_in t c span) (length bs) (Passed p)) (past (flat_binders bs) p) (check_concrete_binders bs span k)
+      → StrayMatches s d t c k (items_in (concrete_binder_in t c span) (length bs) (Ok p)) (past (flat_binders bs) p) (check_concrete_binders bs span k)
   unfolding items_in check_concrete_binders ◌>>◌ ◌>>=◌
   each_binder [] span k h = ending (parts_binders [] h) (passes refl)
   each_binder (b ∷ bs) span k h =
@@ -137,7 +136,7 @@ module _ {s : List ℕ} {d : Layout} {t : List ℕ} {c : Layout} where
 
   -- the list with its count
   pub binders_concrete : (bs : List TypedBinder) (span k : ℕ) {p : Place} → Inside t c p (binder_list bs)
-      → StrayMatches s d t c k (concrete_binders_in t c span (Passed p)) (past (binder_list bs) p) (check_concrete_binders bs span k)
+      → StrayMatches s d t c k (concrete_binders_in t c span (Ok p)) (past (binder_list bs) p) (check_concrete_binders bs span k)
   unfolding concrete_binders_in
   binders_concrete bs span k h =
       let list = parts_list (length bs) (flat_binders bs) h in
@@ -147,14 +146,14 @@ module _ {s : List ℕ} {d : Layout} {t : List ℕ} {c : Layout} where
 
 module _ (s : List ℕ) (d : Layout) (t : List ℕ) (c : Layout) (span k : ℕ) where
   -- f is right about terms that are at most n deep
-  abbrev Right : (Checked → Checked) → ℕ → Type 0
+  abbrev Right : ((Result Place Refused) → Result Place Refused) → ℕ → Type 0
   Right f n =
       (u : Term) (p : Place) → Inside t c p (flat_term u) → deep_term node_weight u ≤ n
-      → StrayMatches s d t c k (f (Passed p)) (past (flat_term u) p) (check_concrete_term u span k)
+      → StrayMatches s d t c k (f (Ok p)) (past (flat_term u) p) (check_concrete_term u span k)
 
-  module _ (f : Checked → Checked) (n : ℕ) (R : Right f n) where
+  module _ (f : Result Place Refused → Result Place Refused) (n : ℕ) (R : Right f n) where
     each_term : (us : Terms) {p : Place} → Inside t c p (flat_terms us) → deep_terms node_weight us ≤ n
-        → StrayMatches s d t c k (items_in f (length_terms us) (Passed p)) (past (flat_terms us) p) (check_concrete_terms us span k)
+        → StrayMatches s d t c k (items_in f (length_terms us) (Ok p)) (past (flat_terms us) p) (check_concrete_terms us span k)
     unfolding items_in check_concrete_term ◌>>◌ ◌>>=◌ deep_condition length_terms
     each_term Terms.no_terms h m = ending (parts_terms Terms.no_terms h) (passes refl)
     each_term (Terms.cons_term u us) {p} h m =
@@ -191,7 +190,7 @@ module _ (s : List ℕ) (d : Layout) (t : List ℕ) (c : Layout) (span k : ℕ) 
 
 module _ {s : List ℕ} {d : Layout} {t : List ℕ} {c : Layout} where
   term_concrete : (u : Term) (n span k : ℕ) {p : Place} → Inside t c p (flat_term u) → deep_term node_weight u ≤ n
-      → StrayMatches s d t c k (concrete_term_in t c n span (Passed p)) (past (flat_term u) p) (check_concrete_term u span k)
+      → StrayMatches s d t c k (concrete_term_in t c n span (Ok p)) (past (flat_term u) p) (check_concrete_term u span k)
   unfolding concrete_term_in
   term_concrete u zero span k h m = absurd (deep_term_lem u m)
   term_concrete u (suc n) span k h m =
@@ -200,7 +199,7 @@ module _ {s : List ℕ} {d : Layout} {t : List ℕ} {c : Layout} where
   -- ------------------------------------------------------------------ fields
 
   each_field : (fs : NamedArgs) (n span k : ℕ) {p : Place} → Inside t c p (flat_fields fs) → deep_fields node_weight fs ≤ n
-      → StrayMatches s d t c k (items_in (concrete_field_in t c n span) (length_fields fs) (Passed p)) (past (flat_fields fs) p) (check_concrete_fields fs span k)
+      → StrayMatches s d t c k (items_in (concrete_field_in t c n span) (length_fields fs) (Ok p)) (past (flat_fields fs) p) (check_concrete_fields fs span k)
   unfolding items_in check_concrete_fields ◌>>◌ ◌>>=◌ deep_condition length_fields past_name_in
   each_field NamedArgs.no_fields n span k h m = ending (parts_fields NamedArgs.no_fields h) (passes refl)
   each_field (NamedArgs.cons_field name u fs) n span k h m =
@@ -213,7 +212,7 @@ module _ {s : List ℕ} {d : Layout} {t : List ℕ} {c : Layout} where
 
   -- the list with its count
   pub fields_concrete : (fs : NamedArgs) (n span k : ℕ) {p : Place} → Inside t c p (field_list fs) → deep_fields node_weight fs ≤ n
-      → StrayMatches s d t c k (concrete_fields_in t c n span (Passed p)) (past (field_list fs) p) (check_concrete_fields fs span k)
+      → StrayMatches s d t c k (concrete_fields_in t c n span (Ok p)) (past (field_list fs) p) (check_concrete_fields fs span k)
   unfolding concrete_fields_in
   fields_concrete fs n span k h m =
       let list = parts_list (length_fields fs) (flat_fields fs) h in

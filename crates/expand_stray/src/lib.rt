@@ -1,152 +1,127 @@
-// Stray sigils: the parts of a condition that expansion looks at and leaves as they are. Each check takes the answer so far, and hands
-// it on once it is a refusal.
+// Stray sigils: the parts of a condition that expansion looks at and leaves as they are.
 #![tactic(auto)]
 
-ghost use Rattle.std.specs.Prelude.{◌≡◌};
+ghost use Rattle.std.specs.Prelude.{◌≡◌, Ok};
 ghost use Rattle.walk_state.specs.Reading.{items_in};
 ghost use Rattle.expand_stray.specs.Concrete.{concrete_within_in, concrete_slot_in, concrete_binder_in, concrete_binders_in, concrete_term_in, concrete_fields_in};
 
+use grammar::code;
 use grammar::codes::TERM;
-use messages::Reason;
+use messages::{Reason, Refused, refuse};
 use nodes::{
-    Sigil, SlotNode, SlotRead, TermNode, TermRead, ValueRead, WithinNode, WithinRead, expect,
-    past_type, read_slot, read_term, read_within,
+    Refusal, Sigil, SlotNode, TermNode, WithinNode, expect, past_type, read_slot, read_term,
+    read_within,
 };
-use tape::layout::Layout;
+use tape::layout::{Layout, Place};
 use tape::scan::skip;
-use walk_state::reading::{Checked, malformed, passed, past_name, stop, too_deep, without_message};
+use walk_state::reading::past_name;
 
-pub fn check_concrete_within(s: &[u8], l: Layout, span: u64, w: Checked) -> Checked
-    ensures { result ≡ concrete_within_in s.now l span w }
+#[tactic(auto, unfolding(crate::specs::Concrete::concrete_within_in, walk_state::specs::Reading::refused_in, walk_state::specs::Reading::without_message_of))]
+pub fn check_concrete_within(s: &[u8], l: Layout, span: u64, p: Place) -> Result<Place, Refused>
+    ensures { result ≡ concrete_within_in s.now l span (Ok p) }
 {
-    let Checked::Passed(p) = w else {
-        return w;
-    };
-    match read_within(s, l, p) {
-        WithinRead::Node(node, next) => match node {
-            WithinNode::Concrete => Checked::Passed(next),
-            WithinNode::ParamRef(name) => stop(span, Reason::StrayWithin(name)),
-        },
-        WithinRead::Refused(f) => without_message(f),
+    let (node, next) = read_within(s, l, p)?;
+    match node {
+        WithinNode::Concrete => Ok(next),
+        WithinNode::ParamRef(name) => Err(refuse(span, Reason::StrayWithin(name))),
     }
 }
 
-pub fn check_concrete_slot(s: &[u8], l: Layout, span: u64, w: Checked) -> Checked
-    ensures { result ≡ concrete_slot_in s.now l span w }
+#[tactic(auto, unfolding(crate::specs::Concrete::concrete_slot_in, walk_state::specs::Reading::refused_in, walk_state::specs::Reading::without_message_of))]
+pub fn check_concrete_slot(s: &[u8], l: Layout, span: u64, p: Place) -> Result<Place, Refused>
+    ensures { result ≡ concrete_slot_in s.now l span (Ok p) }
 {
-    let Checked::Passed(p) = w else {
-        return w;
-    };
-    match read_slot(s, l, p) {
-        SlotRead::Node(node, next) => match node {
-            SlotNode::Name(_) => Checked::Passed(next),
-            SlotNode::ParamRef(name) => stop(span, Reason::StraySlot(Sigil::Param, name)),
-            SlotNode::BinderRef(name) => stop(span, Reason::StraySlot(Sigil::Binder, name)),
-        },
-        SlotRead::Refused(f) => without_message(f),
+    let (node, next) = read_slot(s, l, p)?;
+    match node {
+        SlotNode::Name(_) => Ok(next),
+        SlotNode::ParamRef(name) => Err(refuse(span, Reason::StraySlot(Sigil::Param, name))),
+        SlotNode::BinderRef(name) => Err(refuse(span, Reason::StraySlot(Sigil::Binder, name))),
     }
 }
 
 // A slot and its type.
-pub fn check_concrete_binder(s: &[u8], l: Layout, span: u64, w: Checked) -> Checked
-    ensures { result ≡ concrete_binder_in s.now l span w }
+#[tactic(auto, unfolding(crate::specs::Concrete::concrete_binder_in, walk_state::specs::Reading::passed_in, walk_state::specs::Reading::refused_in, nodes::specs::Node::span_of))]
+pub fn check_concrete_binder(s: &[u8], l: Layout, span: u64, p: Place) -> Result<Place, Refused>
+    ensures { result ≡ concrete_binder_in s.now l span (Ok p) }
 {
-    let slot = check_concrete_slot(s, l, span, w);
-    let Checked::Passed(p) = slot else {
-        return slot;
-    };
-    passed(past_type(s, l, p))
+    let slot = check_concrete_slot(s, l, span, p)?;
+    Ok(past_type(s, l, slot).ok_or(Refusal::MALFORMED)?)
 }
 
 // A list of slots with types.
-pub fn check_concrete_binders(s: &[u8], l: Layout, span: u64, w: Checked) -> Checked
-    ensures { result ≡ concrete_binders_in s.now l span w }
+#[tactic(auto, using(walk_state::proofs::Items::item_passed, walk_state::proofs::Items::item_refused, walk_state::proofs::Items::items_passed), unfolding(crate::specs::Concrete::concrete_binders_in, walk_state::specs::Reading::refused_in, nodes::specs::Node::span_of))]
+pub fn check_concrete_binders(s: &[u8], l: Layout, span: u64, p: Place) -> Result<Place, Refused>
+    ensures { result ≡ concrete_binders_in s.now l span (Ok p) }
 {
-    let Checked::Passed(p) = w else {
-        return w;
-    };
-    let ValueRead::Value(count, first) = expect(s, l, p, 41) else {
-        return malformed();
-    };
-    let mut a = Checked::Passed(first);
-    let mut left = count;
-    while 0 < left {
-        let Checked::Passed(_) = a else {
-            return a;
-        };
-        a = check_concrete_binder(s, l, span, a);
-        left = left - 1;
+    let (count, first) = expect(s, l, p, code::LIST).ok_or(Refusal::MALFORMED)?;
+    let mut q = first;
+    for _ in 0..count {
+        q = check_concrete_binder(s, l, span, q)?;
     }
-    a
+    Ok(q)
 }
 
 // Only arrays are entered: aggregates and arithmetic are passed whole.
 #[cycle(terms)]
-fn check_concrete_term(nesting: usize, s: &[u8], l: Layout, span: u64, w: Checked) -> Checked
-    ensures { result ≡ concrete_term_in s.now l nesting span w }
+#[tactic(auto, using(crate::proofs::Terms::none_down, crate::proofs::Terms::one_down), unfolding(crate::specs::Concrete::concrete_node_in, walk_state::specs::Reading::passed_in, walk_state::specs::Reading::refused_in, walk_state::specs::Reading::without_message_of, nodes::specs::Node::span_of))]
+fn check_concrete_term(
+    nesting: usize,
+    s: &[u8],
+    l: Layout,
+    span: u64,
+    p: Place,
+) -> Result<Place, Refused>
+    ensures { result ≡ concrete_term_in s.now l nesting span (Ok p) }
 {
-    let Checked::Passed(p) = w else {
-        return w;
-    };
     if nesting == 0 {
-        return too_deep();
+        return Err(Refused::TOO_DEEP);
     }
-    match read_term(s, l, p) {
-        TermRead::Node(node, next) => match node {
-            TermNode::ParamRef(name) => stop(span, Reason::StrayField(Sigil::Param, name)),
-            TermNode::BinderRef(name) => stop(span, Reason::StrayField(Sigil::Binder, name)),
-            TermNode::Array(count) => {
-                check_concrete_terms(nesting - 1, s, l, span, count, Checked::Passed(next))
-            }
-            TermNode::Agg | TermNode::Arith => passed(skip(s, l, p, TERM)),
-            TermNode::Var(_) | TermNode::Plain => Checked::Passed(next),
-        },
-        TermRead::Refused(f) => without_message(f),
+    let (node, next) = read_term(s, l, p)?;
+    match node {
+        TermNode::ParamRef(name) => Err(refuse(span, Reason::StrayField(Sigil::Param, name))),
+        TermNode::BinderRef(name) => Err(refuse(span, Reason::StrayField(Sigil::Binder, name))),
+        TermNode::Array(count) => check_concrete_terms(nesting - 1, s, l, span, count, next),
+        TermNode::Agg | TermNode::Arith => Ok(skip(s, l, p, TERM).ok_or(Refusal::MALFORMED)?),
+        TermNode::Var(_) | TermNode::Plain => Ok(next),
     }
 }
 
 // The items of an array.
 #[cycle(terms)]
+#[tactic(auto, using(walk_state::proofs::Items::item_passed, walk_state::proofs::Items::item_refused, walk_state::proofs::Items::items_passed))]
 fn check_concrete_terms(
     nesting: usize,
     s: &[u8],
     l: Layout,
     span: u64,
     count: u64,
-    w: Checked,
-) -> Checked
-    ensures { result ≡ items_in (concrete_term_in s.now l nesting span) count w }
+    p: Place,
+) -> Result<Place, Refused>
+    ensures { result ≡ items_in (concrete_term_in s.now l nesting span) count (Ok p) }
 {
-    let mut a = w;
-    let mut left = count;
-    while 0 < left {
-        let Checked::Passed(_) = a else {
-            return a;
-        };
-        a = check_concrete_term(nesting, s, l, span, a);
-        left = left - 1;
+    let mut q = p;
+    for _ in 0..count {
+        q = check_concrete_term(nesting, s, l, span, q)?;
     }
-    a
+    Ok(q)
 }
 
 // A list of fields.
-pub fn check_concrete_fields(nesting: usize, s: &[u8], l: Layout, span: u64, w: Checked) -> Checked
-    ensures { result ≡ concrete_fields_in s.now l nesting span w }
+#[tactic(auto, using(walk_state::proofs::Items::item_passed, walk_state::proofs::Items::item_refused, walk_state::proofs::Items::items_passed, crate::proofs::Terms::field_refused), unfolding(crate::specs::Concrete::concrete_fields_in, walk_state::specs::Reading::refused_in, nodes::specs::Node::span_of))]
+pub fn check_concrete_fields(
+    nesting: usize,
+    s: &[u8],
+    l: Layout,
+    span: u64,
+    p: Place,
+) -> Result<Place, Refused>
+    ensures { result ≡ concrete_fields_in s.now l nesting span (Ok p) }
 {
-    let Checked::Passed(p) = w else {
-        return w;
-    };
-    let ValueRead::Value(count, first) = expect(s, l, p, 41) else {
-        return malformed();
-    };
-    let mut a = Checked::Passed(first);
-    let mut left = count;
-    while 0 < left {
-        let Checked::Passed(_) = a else {
-            return a;
-        };
-        a = check_concrete_term(nesting, s, l, span, past_name(s, l, a));
-        left = left - 1;
+    let (count, first) = expect(s, l, p, code::LIST).ok_or(Refusal::MALFORMED)?;
+    let mut q = first;
+    for _ in 0..count {
+        let field = past_name(s, l, q)?;
+        q = check_concrete_term(nesting, s, l, span, field)?;
     }
-    a
+    Ok(q)
 }

@@ -2,4 +2,4 @@
 mod TreesCalls
 mod TreesOwn
 pub mod TreesRight
-mod Walking
+pub mod Walking

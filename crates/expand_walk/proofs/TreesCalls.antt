@@ -1,11 +1,12 @@
 -- Where a call stands, the code makes of it what the definition says: which macro it names, its arguments at the next level, and what it
 -- becomes.
 -- Assumes nothing.
+use Rattle.std.proofs.Common.{Result, Ok, Err, Option}
 use Prim.Native.Nat.{ℕ, suc, ◌+◌, ◌≤◌}
 use native.Mathlib.Omega.{arith}
 use mathlib.Core.Path.{◌≡◌, refl, sym, ap, subst, ◌∙◌}
 use mathlib.Core.List.{List, [], ◌∷◌, ◌++◌}
-use mathlib.Core.Option.{Option, none, some}
+use mathlib.Core.Option.{Option as Maybe, none, some}
 use lib.Dec.{eqb}
 use lib.ListN.{length}
 use borrow.Author.Tests.{eqb-true}
@@ -34,8 +35,7 @@ use Rattle.tape.specs.declared.layout.Layout.{Layout}
 use Rattle.tape.specs.declared.layout.Place.{Place}
 use Rattle.nodes.specs.declared.BodyNode.{BodyNode}
 use Rattle.nodes.specs.declared.Heading.{Heading}
-use Rattle.nodes.specs.declared.HeadingRead.{HeadingRead}
-use Rattle.nodes.specs.declared.HeadingRead.TheVariants as hr
+use Rattle.nodes.specs.declared.Refusal.{Refusal as Misread}
 use Rattle.tape.proofs.Located.{past, Inside, inside_next}
 use Rattle.nodes.proofs.Entries.{is_expected}
 use Rattle.nodes.proofs.Placed.{heading_entries, parts_call, parts_def}
@@ -48,14 +48,11 @@ use Rattle.walk_state.specs.Writing.{state}
 use Rattle.subst_state.specs.Output.{copy_in}
 use Rattle.subst_call.specs.Front.{on_macro, refuse_too_large_in}
 use Rattle.subst_call.specs.declared.Macro.{Macro}
-use Rattle.subst_call.specs.declared.MacroRead.{MacroRead}
 use Rattle.subst_call.proofs.TreesFront.{kind_of, body_start, called, count_refusal_matches}
 use Rattle.subst_places.proofs.TreesWalk.{Written, within_copy, copied_written, written_none, AllDone, all_bind, all_map, all_of, rewritten}
 use Rattle.expand_calls.specs.Output.{Reads, Progress, copy_own_in}
 use Rattle.expand_calls.specs.Calls.{resolve_in, refused_call, on_condition_kind, condition_macro_in, on_value_kind, value_macro_in, above, outcome_in}
 use Rattle.expand_walk.specs.Walkers.{Walkers, items_in, arg_in, called_in, on_callee, to_condition_in, to_value_in}
-use Rattle.expand_calls.specs.declared.Callee.{Callee}
-use Rattle.expand_calls.specs.declared.Callee.TheVariants as callee
 use Rattle.expand_calls.proofs.TreesWalk.{going, Above, above_within, above_trans, Room, Ready, Nothing, RefusalMatchesIn, WalkMatches, writes, refuses, stops, starting, ending}
 use Rattle.expand_calls.proofs.TreesLevels.{above_is, written_kept, above_kept}
 use Rattle.expand_calls.proofs.TreesOutcome.{checked, outcome}
@@ -92,18 +89,17 @@ name_size {s} {l} {p} span name args i =
     let h = inside_next (entry 54 span) (text_entry 40 name ∷ entry 41 (length_args args) ∷ flat_args args) i in
     let list = inside_next (text_entry 40 name) (entry 41 (length_args args) ∷ flat_args args) h in
     let read : heading_at s l p 54
-    ≡ hr.Node (record { span = span; name = named (past (entry 54 span ∷ []) p) (length name); count = length_args args })
-    (past (entry 41 (length_args args) ∷ []) (past (text_entry 40 name ∷ []) (past (entry 54 span ∷ []) p))) =
+    ≡ Ok (record { span = span; name = named (past (entry 54 span ∷ []) p) (length name); count = length_args args }, past (entry 41 (length_args args) ∷ []) (past (text_entry 40 name ∷ []) (past (entry 54 span ∷ []) p))) =
     rw (is_expected i, is_expected h, is_expected list) in
-    ap (λ (r : HeadingRead). on_heading 0 (λ head next. head.name.size) r) (sym (parts_call span name args i).parts.read ∙ read)
+    ap (λ (r : Result (Heading × Place) Misread). on_heading 0 (λ head next. head.name.size) r) (sym (parts_call span name args i).parts.read ∙ read)
 
 -- ------------------------------------------------------------------ the arguments at the next level
 
 -- what a call may use of a body: its body, if it is one of the kind, or a refusal
-data Chosen (R : Reads) {A : Type 0} (body : A → MacroBody) : MacroBody → (Macro → Callee) → Walks A → Type 0 where
-  chosen : (b : A) → Chosen R body (body b) (λ def. callee.Macro def) (pure b)
+data Chosen (R : Reads) {A : Type 0} (body : A → MacroBody) : MacroBody → (Macro → Result Macro Refused) → Walks A → Type 0 where
+  chosen : (b : A) → Chosen R body (body b) (λ def. Ok def) (pure b)
   declined : {m : MacroBody} {f : Refused} {r : Refusal} → RefusalMatchesIn R f r
-      → Chosen R body m (λ def. callee.Refused f) (λ k. Outcome.refused r k)
+      → Chosen R body m (λ def. Err f) (λ k. Outcome.refused r k)
 
 module _ {R : Reads} {reg : Registry} (S : Settled R reg) (W : Walkers) {A : Type 0} {Also : List ℕ → A → Type 0} {flat : A → List Entry}
     {body : A → MacroBody} {become : A → SubstMaps → Walks A} (K : Kind Also flat body become) (span : ℕ) (name : Text) (args : CallArgs)
@@ -192,10 +188,10 @@ module _ {R : Reads} {reg : Registry} (S : Settled R reg) (W : Walkers) {A : Typ
 
     -- ---------------------------------------------------------------- which macro it is
 
-    module _ (q : Place) (on_kind : Macro → BodyNode → Callee) (body_of : MacroBody → Walks A)
+    module _ (q : Place) (on_kind : Macro → BodyNode → Result Macro Refused) (body_of : MacroBody → Walks A)
         (choice : (m : MacroBody) → Chosen R body m (λ def. on_kind def (kind_of m)) (body_of m)) where
       by_choice : (dm : MacroDef) {d : Place} (h : Inside R.registry R.definitions d (flat_def dm)) → length dm.params ≤ 16
-          → (m : MacroBody) {c : Macro → Callee} {g : Walks A} → Chosen R body m c g
+          → (m : MacroBody) {c : Macro → Result Macro Refused} {g : Walks A} → Chosen R body m c g
           → Inside R.registry R.definitions (body_start dm h) (flat_body m) → deep_body node_weight m ≤ 64
           → WalkMatches R Also flat P es
           (on_callee R W its_head (state q P.out k) p (past own p) P.bytes result (c (called dm h m))) end
@@ -204,17 +200,17 @@ module _ {R : Reads} {reg : Registry} (S : Settled R reg) (W : Walkers) {A : Typ
       by_choice dm h few m (chosen b) stands deep = counted dm h few b stands deep q
       by_choice dm h few m (declined same) stands deep = stops R same
 
-      abbrev stepped : MacroRead → Progress
+      abbrev stepped : Option Macro → Progress
       stepped m =
           on_callee R W its_head (state q P.out k) p (past own p) P.bytes result
           (on_macro (refused_call R its_head UnknownMacro) (λ def. on_kind def def.kind) m)
 
-      abbrev resolving : (limit file : ℕ) → Option MacroDef → Outcome A
+      abbrev resolving : (limit file : ℕ) → Maybe MacroDef → Outcome A
       resolving limit file o =
           proceed ((elim o as (λ x. Walks MacroDef) [ some d ↦ pure d | none ↦ refuse 30 span (unknown_macro name) ]) k)
           (λ dm k₁. proceed (body_of dm.body k₁) (rest limit file dm))
 
-      by_name : {m : MacroRead} {o : Option MacroDef} → Resolved R m o → WalkMatches R Also flat P es (stepped m) end (resolving R.limit R.file o)
+      by_name : {m : Option Macro} {o : Maybe MacroDef} → Resolved R m o → WalkMatches R Also flat P es (stepped m) end (resolving R.limit R.file o)
       unfolding open_outcome message_of
       by_name unresolved =
           stops R (record { its_number = refl; its_span = refl; its_message = ap unknown_macro (parts_call span name args i).spelled })

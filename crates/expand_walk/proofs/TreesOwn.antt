@@ -1,6 +1,8 @@
 -- The condition's own entries in the output of an expansion: what is kept as it stands, what is kept once a check passed, and the fields
 -- of a refinement.
 -- Assumes nothing.
+use Rattle.messages.specs.declared.Refused.{Refused}
+use Rattle.std.proofs.Common.{Result, Ok}
 use Prim.Native.Nat.{ℕ, ◌≤◌}
 use native.Mathlib.Omega.{arith}
 use mathlib.Core.Path.{◌≡◌, refl, ap}
@@ -19,8 +21,6 @@ use Rattle.tape.proofs.Trees.{passes_fields}
 use Rattle.area.specs.Area.{Area, put_in}
 use Rattle.area.proofs.Appends.{out_put, fits_front}
 use Rattle.area.proofs.Within.{within_put}
-use Rattle.walk_state.specs.declared.reading.Checked.{Checked}
-use Rattle.walk_state.specs.declared.reading.Checked.TheVariants.{Passed}
 use Rattle.walk_state.specs.Writing as one
 use Rattle.walk_state.specs.Writing.{state}
 use Rattle.subst_places.specs.Parameters.{Tapes, tapes}
@@ -52,7 +52,7 @@ module _ (R : Reads) where
   At p es = Inside R.condition R.layout p es
 
   -- what a check of the condition came to
-  abbrev pub Checks : ℕ → Checked → Place → Outcome (Unit {0}) → Type 0
+  abbrev pub Checks : ℕ → Result Place Refused → Place → Outcome (Unit {0}) → Type 0
   Checks k x end o = StrayMatches R.registry R.definitions R.condition R.layout k x end o
 
   module _ {A : Type 0} {Also : List ℕ → A → Type 0} {flat : A → List Entry} {P : Area} {es es' own : List Entry} {p end : Place} {k : ℕ}
@@ -60,14 +60,14 @@ module _ (R : Reads) where
     -- the condition's own entries are kept, and then f goes on
     pub copy_own_matches : (f : Progress → Progress) {o : Outcome A} → At p own → Written P es
         → ((Q : Area) → Written Q (es ++ own) → Above P Q → WalkMatches R Also flat Q es' (f (going (past own p) k Q result)) end o)
-        → WalkMatches R Also flat P es' (f (own_copied R (state p P.out k) (Passed (past own p)) P.bytes result)) end o
+        → WalkMatches R Also flat P es' (f (own_copied R (state p P.out k) (Ok (past own p)) P.bytes result)) end o
     unfolding copy_own_in
     copy_own_matches f i w next =
         let a = above_within (within_copy i {P = P}) in
         since R a (next _ (copied_written i w) a)
 
     -- they are kept if a check passes them
-    pub check_matches : (f : Progress → Progress) → Strict f → {q : Place} {x : Checked} {o : Outcome (Unit {0})} (m : Walks A) → At p own
+    pub check_matches : (f : Progress → Progress) → Strict f → {q : Place} {x : Result Place Refused} {o : Outcome (Unit {0})} (m : Walks A) → At p own
         → q ≡ past own p → Checks k x q o → Written P es
         → ((Q : Area) → Written Q (es ++ own) → Above P Q → WalkMatches R Also flat Q es' (f (going q k Q result)) end (m k))
         → WalkMatches R Also flat P es' (f (own_copied R (state p P.out k) x P.bytes result)) end (proceed o (λ u. m))
@@ -78,7 +78,7 @@ module _ (R : Reads) where
   -- the condition's entries that are kept are the last of a tree
   pub own_matches : {A : Type 0} {Also : List ℕ → A → Type 0} {flat : A → List Entry} (a : A) {P : Area} {es es' own : List Entry} {p : Place}
       {k : ℕ} {result : List ℕ} → At p own → Written P es → es ++ own ≡ es' ++ flat a → Ready result → Also result a
-      → WalkMatches R Also flat P es' (own_copied R (state p P.out k) (Passed (past own p)) P.bytes result) (past own p) (Outcome.done a k)
+      → WalkMatches R Also flat P es' (own_copied R (state p P.out k) (Ok (past own p)) P.bytes result) (past own p) (Outcome.done a k)
   unfolding copy_own_in
   own_matches a {P} {result = result} i w e ready also =
       writes _ result refl (rewritten e (copied_written i w)) (above_within (within_copy i {P = P})) ready also

@@ -1,6 +1,8 @@
 -- Where a condition stands, the walkers of an expansion write the entries of the expanded condition behind what was written, or refuse as
 -- its definition does. By induction on the nesting that is left; each node is one clause.
 -- Assumes nothing.
+use Rattle.messages.specs.declared.Refused.{Refused}
+use Rattle.std.proofs.Common.{Result, Ok}
 use Prim.Native.Nat.{ℕ, zero, suc, ◌≤◌, ◌<◌}
 use native.Mathlib.Omega.{arith}
 use mathlib.Core.Path.{◌≡◌, refl, sym, ap, ◌∙◌}
@@ -55,8 +57,6 @@ use Rattle.area.specs.Area.{Area}
 use Rattle.messages.specs.Reason.{refused_at, message_of}
 use Rattle.messages.specs.declared.Reason.TheVariants.{StrayCondition, StrayOperand}
 use Rattle.walk_state.specs.Reading.{passed_in}
-use Rattle.walk_state.specs.declared.reading.Checked.{Checked}
-use Rattle.walk_state.specs.declared.reading.Checked.TheVariants.{Passed}
 use Rattle.walk_state.specs.Writing.{state}
 use Rattle.subst_places.specs.Parameters.{behind_in}
 use Rattle.subst_places.proofs.TreesWalk.{Written, rewritten, regrouped, all_of}
@@ -167,7 +167,7 @@ module _ {R : Reads} {reg : Registry} (S : Settled R reg) where
 
   -- past a tree
   passed_all : {p : Place} {es : List Entry} {sort : ℕ} {d : (ℕ → ℕ) → ℕ} {x : Bool} → At R p es → Passes (sort ∷ []) es d x → sort < 32
-      → past_all R p sort ≡ Passed (past es p)
+      → past_all R p sort ≡ Ok (past es p)
   unfolding passed_in
   passed_all h b m = rw (inside_skip h b m) refl
 
@@ -199,7 +199,7 @@ module _ {R : Reads} {reg : Registry} (S : Settled R reg) where
     -- a condition stays one
     cond_arg : (c : Condition) (k : ℕ) (result : List ℕ) {p : Place} {P : Area} {es : List Entry}
         → At R p (flat_arg (CallArg.ConditionArg c)) → deep_condition node_weight c ≤ n → Room P (deep_condition call_weight c) → Ready result → Written P es
-        → WalkMatches R Nothing flat_arg P es (inner_in R W (state p P.out k) (Passed (past (entry 55 0 ∷ []) p)) P.bytes result)
+        → WalkMatches R Nothing flat_arg P es (inner_in R W (state p P.out k) (Ok (past (entry 55 0 ∷ []) p)) P.bytes result)
         (past (flat_arg (CallArg.ConditionArg c)) p) (as_condition_arg (expand_temporal_condition reg c) k)
     unfolding inner_in as_condition_arg open_outcome flat_condition
     cond_arg c k result {P = P} {es} h d room ready w =
@@ -212,7 +212,7 @@ module _ {R : Reads} {reg : Registry} (S : Settled R reg) where
     -- a term
     term_arg_lem : (t : Term) (k : ℕ) (result : List ℕ) {p : Place} {P : Area} {es : List Entry} → At R p (flat_arg (CallArg.TermArg t))
         → deep_term node_weight t ≤ n → Room P (deep_term call_weight t) → Ready result → Written P es
-        → WalkMatches R Nothing flat_arg P es (W.operand (own_copied R (state p P.out k) (Passed (past (entry 56 0 ∷ []) p)) P.bytes result))
+        → WalkMatches R Nothing flat_arg P es (W.operand (own_copied R (state p P.out k) (Ok (past (entry 56 0 ∷ []) p)) P.bytes result))
         (past (flat_arg (CallArg.TermArg t)) p) (as_term_arg (expand_temporal_operand reg t) k)
     unfolding as_term_arg open_outcome flat_condition
     term_arg_lem t k result {P = P} {es} h d room ready w =
@@ -228,7 +228,7 @@ module _ {R : Reads} {reg : Registry} (S : Settled R reg) where
         → Room P (deep_condition call_weight (Condition.ConditionCall s c)) → Ready result → Written P es → (b : Bool)
         → WalkMatches R Nothing flat_arg P es
         (pick b (W.value_arg (state p P.out k) (past (entry 55 0 ∷ []) p) P.bytes result)
-        (inner_in R W (state p P.out k) (Passed (past (entry 55 0 ∷ []) p)) P.bytes result))
+        (inner_in R W (state p P.out k) (Ok (past (entry 55 0 ∷ []) p)) P.bytes result))
         (past (flat_arg (CallArg.ConditionArg (Condition.ConditionCall s c))) p)
         ((elim b as (λ (x : Bool). Walks CallArg) [ true ↦ as_term_arg (expand_temporal_call_to_value reg c) | false ↦ as_condition_arg (expand_temporal_condition reg (Condition.ConditionCall s c)) ]) k)
     unfolding deep_condition is_call weigh
@@ -309,7 +309,7 @@ module _ {R : Reads} {reg : Registry} (S : Settled R reg) where
       abbrev behind : Place
       behind = past (flat_within v ∷ []) within
 
-      sides_right : {P Q : Area} {es : List Entry} {x : Checked} {o : Outcome (Unit {0})} → At R p (entry 6 s ∷ [])
+      sides_right : {P Q : Area} {es : List Entry} {x : Result Place Refused} {o : Outcome (Unit {0})} → At R p (entry 6 s ∷ [])
           → WalkMatches R (Shaped left) flat_condition Q (es ++ entry 6 s ∷ []) (W.condition (going left k Q result)) within (expand_temporal_condition reg l k)
           → At R within (flat_within v ∷ []) → At R behind (flat_condition e) → Checks R k x behind o → deep_condition node_weight e ≤ n
           → Above P Q → Room P (deep_condition call_weight (Condition.Since s l v e))
@@ -318,7 +318,7 @@ module _ {R : Reads} {reg : Registry} (S : Settled R reg) where
       unfolding open_outcome flat_condition deep_condition is_call weigh copy_own_after_in copy_own_in shape_in root_condition
       sides_right h lw hv he (passes y) de a room =
           rw y
-          (bind_matches R (λ X. W.condition (own_copied_after R (Passed behind) k X)) ih.strict_condition _ lw (λ l' k₁ Q₁ z e₁ x₁ a₁ ready₁ s₁.
+          (bind_matches R (λ X. W.condition (own_copied_after R (Ok behind) k X)) ih.strict_condition _ lw (λ l' k₁ Q₁ z e₁ x₁ a₁ ready₁ s₁.
           copy_own_matches R W.condition hv x₁ (λ Q₂ x₂ a₂.
           map_matches R (λ e'. Condition.Since s l' v e') (λ e' k₂ z₂ q₂ s₂. (simp append_assoc, rw (is_entry h)))
           (ih.condition e k₁ he de (room_for _ _ (omega arith) (above_trans a (above_trans a₁ a₂)) room) ready₁ x₂))))
@@ -331,7 +331,7 @@ module _ {R : Reads} {reg : Registry} (S : Settled R reg) where
           (expand_temporal_condition reg (Condition.Since s l v e) k)
       unfolding since_in passed_in expand_temporal_condition open_outcome deep_condition
       since_right h hl hv he dl de room ready w =
-          let found : Progress → Checked =
+          let found : Progress → (Result Place Refused) =
           λ X. concrete_within_in R.condition R.layout s (passed_in (behind_in R.condition R.layout left X.walk)) in
           copy_own_matches R (λ X. W.condition (own_copied_after R (found (W.condition X)) k (W.condition X))) h w (λ Q x a.
           let lw = ih.condition l k {result = result} hl dl (room_for _ _ (omega arith) a room) ready x in

@@ -3,33 +3,35 @@
 // the Rust's names without their `temporal_`, each with its helpers behind it.
 #![tactic(auto)]
 
-ghost use Rattle.std.specs.Prelude.{◌≡◌};
+ghost use Rattle.std.specs.Prelude.{◌≡◌, Ok};
 ghost use Rattle.expand_calls.specs.Output.{reads, progress};
+ghost use Rattle.expand_stray.specs.Concrete.{concrete_within_in, concrete_slot_in, concrete_binders_in};
+ghost use Rattle.subst_places.specs.Parameters.{behind_in};
+ghost use Rattle.walk_state.specs.Reading.{passed_in};
 ghost use Rattle.expand_walk.specs.Walkers.{walkers, stray_in, condition_node_in, both_in, inner_in, since_in, refine_in, operand_node_in, stray_term_in, sides_in, to_condition_in, to_value_in, called_in, items_in, arg_in, condition_arg_in};
 
 use area::put;
-use expand_calls::output::{Context, copy_own, copy_own_after, refold};
-use expand_calls::{Callee, calls_value, condition_macro, level_above, outcome, value_macro};
+use expand_calls::output::{Context, copy_own, copy_own_after, past_all, refold};
+use expand_calls::{calls_value, condition_macro, level_above, outcome, value_macro};
 use expand_stray::{
     check_concrete_binder, check_concrete_binders, check_concrete_fields, check_concrete_slot,
     check_concrete_within,
 };
-use grammar::codes::{ARGUMENT, CONDITION, TERM};
-use messages::Reason;
+use grammar::code;
+use grammar::codes::{ARGUMENT, TERM};
+use messages::{Reason, Refused, refuse};
 use nodes::{
-    AggNode, AggRead, ArgNode, ArgRead, ConditionNode, ConditionRead, Heading, HeadingRead, Sigil,
-    TermNode, TermRead, ValueRead, expect, read_agg, read_argument, read_condition, read_heading,
-    read_term,
+    AggNode, ArgNode, ConditionNode, Heading, Refusal, Sigil, TermNode, expect, read_agg,
+    read_argument, read_condition, read_heading, read_term,
 };
 use subst_call::{Macro, wrong_count};
 use subst_places::places::behind;
 use tape::layout::Place;
-use tape::scan::skip;
-use walk_state::reading::{Checked, passed, stop};
 use walk_state::writing::{State, Walk, without_message};
 
 // The Rust's `expand_temporal_condition`.
 #[cycle(walk)]
+#[tactic(auto, using(crate::proofs::Walking::refused_condition, crate::proofs::Walking::none_condition, crate::proofs::Walking::down_condition))]
 pub fn expand_condition(
     n: usize,
     reg: &[u8],
@@ -48,7 +50,7 @@ pub fn expand_condition(
     if n == 0 {
         return without_message(3, 0, st.charged);
     }
-    let ConditionRead::Node(node, next) = read_condition(cond, x.condition, st.place) else {
+    let Ok((node, next)) = read_condition(cond, x.condition, st.place) else {
         return without_message(2, 0, st.charged);
     };
     condition(n - 1, reg, places, cond, work, res, x, node, st, next)
@@ -56,6 +58,7 @@ pub fn expand_condition(
 
 // The condition whose own entries end at `next`.
 #[cycle(walk)]
+#[tactic(auto, using(crate::proofs::Walking::fields_at), unfolding(crate::specs::Walkers::condition_node_in, crate::specs::Walkers::stray_in, expand_calls::specs::Output::copy_own_in, walk_state::specs::Reading::refused_in))]
 fn condition(
     n: usize,
     reg: &[u8],
@@ -95,18 +98,25 @@ fn condition(
 
 // What is looked at of a condition before it is walked, and where it ends: a within, a binder, a slot or the fields of a predicate. A
 // stray sigil is refused. A Since looks for its within behind its left side.
-fn check_stray(n: usize, cond: &[u8], x: Context, node: ConditionNode, next: Place) -> Checked
+#[tactic(auto, unfolding(crate::specs::Walkers::stray_in, walk_state::specs::Reading::refused_in))]
+fn check_stray(
+    n: usize,
+    cond: &[u8],
+    x: Context,
+    node: ConditionNode,
+    next: Place,
+) -> Result<Place, Refused>
     ensures { result ≡ stray_in cond.now x.condition n node next }
 {
-    let here = Checked::Passed(next);
     match node {
-        ConditionNode::Formerly(span) => check_concrete_within(cond, x.condition, span, here),
-        ConditionNode::Previous(span) => check_concrete_within(cond, x.condition, span, here),
-        ConditionNode::Predicate(span) => check_concrete_fields(n, cond, x.condition, span, here),
-        ConditionNode::Tp(span) => check_concrete_slot(cond, x.condition, span, here),
-        ConditionNode::Exists(span) => check_concrete_binder(cond, x.condition, span, here),
+        ConditionNode::Formerly(span) | ConditionNode::Previous(span) => {
+            check_concrete_within(cond, x.condition, span, next)
+        }
+        ConditionNode::Predicate(span) => check_concrete_fields(n, cond, x.condition, span, next),
+        ConditionNode::Tp(span) => check_concrete_slot(cond, x.condition, span, next),
+        ConditionNode::Exists(span) => check_concrete_binder(cond, x.condition, span, next),
         ConditionNode::SigilRef(span, sigil, name) => {
-            stop(span, Reason::StrayCondition(sigil, name))
+            Err(refuse(span, Reason::StrayCondition(sigil, name)))
         }
         ConditionNode::And(_)
         | ConditionNode::Or(_)
@@ -114,11 +124,12 @@ fn check_stray(n: usize, cond: &[u8], x: Context, node: ConditionNode, next: Pla
         | ConditionNode::Since(_)
         | ConditionNode::Comparison(_)
         | ConditionNode::Call(_)
-        | ConditionNode::Refine(_, _) => here,
+        | ConditionNode::Refine(_, _) => Ok(next),
     }
 }
 
 #[cycle(walk)]
+#[tactic(auto, unfolding(crate::specs::Walkers::both_in))]
 fn both(
     n: usize,
     reg: &[u8],
@@ -132,13 +143,14 @@ fn both(
 ) -> Walk
     ensures { progress result work.new res.new ≡ both_in (reads reg.now places.now cond.now x) (walkers (reads reg.now places.now cond.now x) n) st next work.old res.old }
 {
-    let w = copy_own(cond, work, x, st, Checked::Passed(next));
+    let w = copy_own(cond, work, x, st, Ok(next));
     let l = expand_condition(n, reg, places, cond, work, res, x, w);
     expand_condition(n, reg, places, cond, work, res, x, l)
 }
 
 // The one condition behind what was looked at.
 #[cycle(walk)]
+#[tactic(auto, unfolding(crate::specs::Walkers::inner_in))]
 fn inner(
     n: usize,
     reg: &[u8],
@@ -148,7 +160,7 @@ fn inner(
     res: &mut [u8],
     x: Context,
     st: State,
-    found: Checked,
+    found: Result<Place, Refused>,
 ) -> Walk
     ensures { progress result work.new res.new ≡ inner_in (reads reg.now places.now cond.now x) (walkers (reads reg.now places.now cond.now x) n) st found work.old res.old }
 {
@@ -158,6 +170,7 @@ fn inner(
 
 // The tape has left, within, right. A refusal of the within comes before one of the left side, with what was charged before both.
 #[cycle(walk)]
+#[tactic(auto, unfolding(crate::specs::Walkers::since_in))]
 fn since(
     n: usize,
     reg: &[u8],
@@ -172,16 +185,31 @@ fn since(
 ) -> Walk
     ensures { progress result work.new res.new ≡ since_in (reads reg.now places.now cond.now x) (walkers (reads reg.now places.now cond.now x) n) span st left work.old res.old }
 {
-    let w = copy_own(cond, work, x, st, Checked::Passed(left));
+    let w = copy_own(cond, work, x, st, Ok(left));
     let l = expand_condition(n, reg, places, cond, work, res, x, w);
-    let within = passed(behind(cond, x.condition, left, l));
-    let found = check_concrete_within(cond, x.condition, span, within);
+    let found = within_behind(cond, x, span, left, l);
     let i = copy_own_after(cond, work, x, found, st.charged, l);
     expand_condition(n, reg, places, cond, work, res, x, i)
 }
 
+// The within of a Since, behind its left side.
+#[tactic(auto, unfolding(expand_stray::specs::Concrete::concrete_within_in, walk_state::specs::Reading::passed_in, walk_state::specs::Reading::refused_in, nodes::specs::Node::span_of))]
+fn within_behind(
+    cond: &[u8],
+    x: Context,
+    span: u64,
+    left: Place,
+    walked: Walk,
+) -> Result<Place, Refused>
+    ensures { result ≡ concrete_within_in cond.now x.condition span (passed_in (behind_in cond.now x.condition left walked)) }
+{
+    let p = behind(cond, x.condition, left, walked).ok_or(Refusal::MALFORMED)?;
+    check_concrete_within(cond, x.condition, span, p)
+}
+
 // The two sides of a comparison or of arithmetic.
 #[cycle(walk)]
+#[tactic(auto, unfolding(crate::specs::Walkers::sides_in))]
 fn sides(
     n: usize,
     reg: &[u8],
@@ -195,13 +223,14 @@ fn sides(
 ) -> Walk
     ensures { progress result work.new res.new ≡ sides_in (reads reg.now places.now cond.now x) (walkers (reads reg.now places.now cond.now x) n) st next work.old res.old }
 {
-    let w = copy_own(cond, work, x, st, Checked::Passed(next));
+    let w = copy_own(cond, work, x, st, Ok(next));
     let l = expand_operand(n, reg, places, cond, work, res, x, w);
     expand_operand(n, reg, places, cond, work, res, x, l)
 }
 
 // The base, then the fold.
 #[cycle(walk)]
+#[tactic(auto, unfolding(crate::specs::Walkers::refine_in))]
 fn refine(
     n: usize,
     reg: &[u8],
@@ -216,18 +245,14 @@ fn refine(
 ) -> Walk
     ensures { progress result work.new res.new ≡ refine_in (reads reg.now places.now cond.now x) (walkers (reads reg.now places.now cond.now x) n) own st next work.old res.old }
 {
-    let out = st.out;
-    let start = State {
-        place: next,
-        out,
-        charged: st.charged,
-    };
+    let start = State { place: next, ..st };
     let base = expand_condition(n, reg, places, cond, work, res, x, Walk::Going(start));
-    refold(cond, work, res, x, own, out.n, next, base)
+    refold(cond, work, res, x, own, st.out.n, next, base)
 }
 
 // The Rust's `expand_temporal_agg`: the aggregate behind a 30, which stands at the state's place. A call takes the whole term's place.
 #[cycle(walk)]
+#[tactic(auto, using(crate::proofs::Walking::none_agg, crate::proofs::Walking::down_agg), unfolding(crate::specs::Walkers::agg_node_in))]
 fn expand_agg(
     n: usize,
     reg: &[u8],
@@ -244,17 +269,16 @@ fn expand_agg(
     if n == 0 {
         return without_message(3, 0, st.charged);
     }
-    let AggRead::Node(node, next) = read_agg(cond, x.condition, p) else {
+    let Ok((node, next)) = read_agg(cond, x.condition, p) else {
         return without_message(2, 0, st.charged);
     };
     match node {
         AggNode::Sum(span) => {
-            let slot = check_concrete_slot(cond, x.condition, span, Checked::Passed(next));
-            let found = check_concrete_binders(cond, x.condition, span, slot);
+            let found = check_sum(cond, x, span, next);
             inner(n - 1, reg, places, cond, work, res, x, st, found)
         }
         AggNode::Count(span) => {
-            let found = check_concrete_binders(cond, x.condition, span, Checked::Passed(next));
+            let found = check_concrete_binders(cond, x.condition, span, next);
             inner(n - 1, reg, places, cond, work, res, x, st, found)
         }
         AggNode::Call(_) => {
@@ -263,8 +287,18 @@ fn expand_agg(
     }
 }
 
+// The slot of a sum and its list of binders.
+#[tactic(auto, unfolding(expand_stray::specs::Concrete::concrete_binders_in))]
+fn check_sum(cond: &[u8], x: Context, span: u64, p: Place) -> Result<Place, Refused>
+    ensures { result ≡ concrete_binders_in cond.now x.condition span (concrete_slot_in cond.now x.condition span (Ok p)) }
+{
+    let slot = check_concrete_slot(cond, x.condition, span, p)?;
+    check_concrete_binders(cond, x.condition, span, slot)
+}
+
 // The Rust's `expand_temporal_operand`.
 #[cycle(walk)]
+#[tactic(auto, using(crate::proofs::Walking::refused_operand, crate::proofs::Walking::none_operand, crate::proofs::Walking::down_operand))]
 fn expand_operand(
     n: usize,
     reg: &[u8],
@@ -283,7 +317,7 @@ fn expand_operand(
     if n == 0 {
         return without_message(3, 0, st.charged);
     }
-    let TermRead::Node(node, next) = read_term(cond, x.condition, st.place) else {
+    let Ok((node, next)) = read_term(cond, x.condition, st.place) else {
         return without_message(2, 0, st.charged);
     };
     operand(n - 1, reg, places, cond, work, res, x, node, st, next)
@@ -291,6 +325,7 @@ fn expand_operand(
 
 // Of a term only aggregates, arithmetic and calls are entered.
 #[cycle(walk)]
+#[tactic(auto, unfolding(crate::specs::Walkers::operand_node_in, crate::specs::Walkers::stray_term_in, expand_calls::specs::Output::copy_own_in, walk_state::specs::Reading::refused_in))]
 fn operand(
     n: usize,
     reg: &[u8],
@@ -318,21 +353,27 @@ fn operand(
 }
 
 // Where a term ends that stands at `p` and is not walked. A stray sigil is refused, and an array is passed whole.
-fn check_stray_term(cond: &[u8], x: Context, node: TermNode, p: Place, next: Place) -> Checked
+#[tactic(auto, unfolding(crate::specs::Walkers::stray_term_in, walk_state::specs::Reading::refused_in))]
+fn check_stray_term(
+    cond: &[u8],
+    x: Context,
+    node: TermNode,
+    p: Place,
+    next: Place,
+) -> Result<Place, Refused>
     ensures { result ≡ stray_term_in cond.now x.condition node p next }
 {
     match node {
-        TermNode::ParamRef(name) => stop(0, Reason::StrayOperand(Sigil::Param, name)),
-        TermNode::BinderRef(name) => stop(0, Reason::StrayOperand(Sigil::Binder, name)),
-        TermNode::Array(_) => passed(skip(cond, x.condition, p, TERM)),
-        TermNode::Agg | TermNode::Arith | TermNode::Var(_) | TermNode::Plain => {
-            Checked::Passed(next)
-        }
+        TermNode::ParamRef(name) => Err(refuse(0, Reason::StrayOperand(Sigil::Param, name))),
+        TermNode::BinderRef(name) => Err(refuse(0, Reason::StrayOperand(Sigil::Binder, name))),
+        TermNode::Array(_) => past_all(cond, x, p, TERM),
+        TermNode::Agg | TermNode::Arith | TermNode::Var(_) | TermNode::Plain => { Ok(next) }
     }
 }
 
 // The Rust's `expand_temporal_call_to_condition`: the outcome takes the place of the 11, with spans of its own.
 #[cycle(walk)]
+#[tactic(auto, unfolding(crate::specs::Walkers::to_condition_in))]
 fn expand_call_to_condition(
     n: usize,
     reg: &[u8],
@@ -346,17 +387,18 @@ fn expand_call_to_condition(
 ) -> Walk
     ensures { progress result work.new res.new ≡ to_condition_in (reads reg.now places.now cond.now x) (walkers (reads reg.now places.now cond.now x) n) st p work.old res.old }
 {
-    let HeadingRead::Node(call, first) = read_heading(cond, x.condition, p, 54) else {
+    let Ok((call, first)) = read_heading(cond, x.condition, p, code::CALLED) else {
         return without_message(2, 0, st.charged);
     };
     match condition_macro(reg, places, cond, x, call) {
-        Callee::Macro(def) => called(n, reg, places, cond, work, res, x, def, call, st, p, first),
-        Callee::Refused(f) => Walk::Refused(f, st.charged),
+        Ok(def) => called(n, reg, places, cond, work, res, x, def, call, st, p, first),
+        Err(f) => Walk::Refused(f, st.charged),
     }
 }
 
 // A call of a macro of the right kind: 34; the call with its arguments at the next level; what it becomes.
 #[cycle(walk)]
+#[tactic(auto, unfolding(crate::specs::Walkers::called_in))]
 fn called(
     n: usize,
     reg: &[u8],
@@ -379,15 +421,16 @@ fn called(
     let start = State {
         place: p,
         out: level_above(st.out),
-        charged: st.charged,
+        ..st
     };
-    let w = copy_own(cond, work, x, start, Checked::Passed(first));
+    let w = copy_own(cond, work, x, start, Ok(first));
     let a = expand_call_args(n, reg, places, cond, work, res, x, call.count, w);
     outcome(reg, work, res, x, def, call, st.out, a)
 }
 
 // The Rust's `expand_temporal_call_args`.
 #[cycle(walk)]
+#[tactic(auto, using(crate::proofs::Walking::item_walked, crate::proofs::Walking::item_refused, crate::proofs::Walking::items_walked))]
 fn expand_call_args(
     n: usize,
     reg: &[u8],
@@ -402,18 +445,17 @@ fn expand_call_args(
     ensures { progress result work.new res.new ≡ items_in (arg_in (reads reg.now places.now cond.now x) (walkers (reads reg.now places.now cond.now x) n)) count (progress w work.old res.old) }
 {
     let mut a = w;
-    let mut left = count;
-    while 0 < left {
+    for _ in 0..count {
         let Walk::Going(_) = a else {
             return a;
         };
         a = arg(n, reg, places, cond, work, res, x, a);
-        left = left - 1;
     }
     a
 }
 
 #[cycle(walk)]
+#[tactic(auto, unfolding(crate::specs::Walkers::arg_in))]
 fn arg(
     n: usize,
     reg: &[u8],
@@ -429,17 +471,17 @@ fn arg(
     let Walk::Going(st) = w else {
         return w;
     };
-    let ArgRead::Node(kind, next) = read_argument(cond, x.condition, st.place) else {
+    let Ok((kind, next)) = read_argument(cond, x.condition, st.place) else {
         return without_message(2, 0, st.charged);
     };
     match kind {
         ArgNode::Condition => cond_arg(n, reg, places, cond, work, res, x, st, next),
         ArgNode::Term => {
-            let t = copy_own(cond, work, x, st, Checked::Passed(next));
+            let t = copy_own(cond, work, x, st, Ok(next));
             expand_operand(n, reg, places, cond, work, res, x, t)
         }
         ArgNode::Within => {
-            let end = passed(skip(cond, x.condition, st.place, ARGUMENT));
+            let end = past_all(cond, x, st.place, ARGUMENT);
             copy_own(cond, work, x, st, end)
         }
     }
@@ -447,6 +489,7 @@ fn arg(
 
 // The argument that is a condition: a bare call of a value macro becomes a term, and any other stays a condition.
 #[cycle(walk)]
+#[tactic(auto, unfolding(crate::specs::Walkers::condition_arg_in))]
 fn cond_arg(
     n: usize,
     reg: &[u8],
@@ -463,11 +506,12 @@ fn cond_arg(
     if calls_value(reg, places, cond, x, p) {
         return value_arg(n, reg, places, cond, work, res, x, st, p);
     }
-    inner(n, reg, places, cond, work, res, x, st, Checked::Passed(p))
+    inner(n, reg, places, cond, work, res, x, st, Ok(p))
 }
 
 // The bare call at a place, as a term.
 #[cycle(walk)]
+#[tactic(auto, using(crate::proofs::Walking::none_value, crate::proofs::Walking::down_value), unfolding(crate::specs::Walkers::value_arg_in))]
 fn value_arg(
     n: usize,
     reg: &[u8],
@@ -484,20 +528,21 @@ fn value_arg(
     if n == 0 {
         return without_message(3, 0, st.charged);
     }
-    let ValueRead::Value(_, call) = expect(cond, x.condition, p, 11) else {
+    let Some((_, call)) = expect(cond, x.condition, p, code::CALL) else {
         return without_message(2, 0, st.charged);
     };
-    let out = put(work, st.out, 56, 0);
+    let out = put(work, st.out, code::ARG_TERM, 0);
     let term = State {
         place: p,
         out,
-        charged: st.charged,
+        ..st
     };
     expand_call_to_value(n - 1, reg, places, cond, work, res, x, term, call)
 }
 
 // The Rust's `expand_temporal_call_to_value`.
 #[cycle(walk)]
+#[tactic(auto, unfolding(crate::specs::Walkers::to_value_in))]
 fn expand_call_to_value(
     n: usize,
     reg: &[u8],
@@ -511,11 +556,11 @@ fn expand_call_to_value(
 ) -> Walk
     ensures { progress result work.new res.new ≡ to_value_in (reads reg.now places.now cond.now x) (walkers (reads reg.now places.now cond.now x) n) st p work.old res.old }
 {
-    let HeadingRead::Node(call, first) = read_heading(cond, x.condition, p, 54) else {
+    let Ok((call, first)) = read_heading(cond, x.condition, p, code::CALLED) else {
         return without_message(2, 0, st.charged);
     };
     match value_macro(reg, places, cond, x, call) {
-        Callee::Macro(def) => called(n, reg, places, cond, work, res, x, def, call, st, p, first),
-        Callee::Refused(f) => Walk::Refused(f, st.charged),
+        Ok(def) => called(n, reg, places, cond, work, res, x, def, call, st, p, first),
+        Err(f) => Walk::Refused(f, st.charged),
     }
 }

@@ -1,5 +1,7 @@
 -- The counts that an expansion hands back, on the way from what was read and walked to what the definition says.
 -- Assumes nothing.
+use Rattle.tape.specs.declared.header.Fault.{Fault}
+use Rattle.std.proofs.Common.{Result, Ok, Err}
 use Prim.Native.Nat.{ℕ}
 use native.Mathlib.Omega.{arith}
 use mathlib.Core.Path.{◌≡◌, refl, ap, ap₂, ◌∙◌}
@@ -13,15 +15,12 @@ use Rattle.format.proofs.Rewritten.{Rewrites, read_as}
 use Rattle.definition.specs.Outcome.{Outcome}
 use Rattle.definition.specs.Answers.{Buffers, long_buffers}
 use Rattle.tape.specs.Accept.{accept_of}
-use Rattle.tape.specs.declared.header.Opened.{Opened}
-use Rattle.tape.specs.declared.header.Opened.TheVariants as opened
 use Rattle.tape.specs.declared.layout.Layout.{Layout}
 use Rattle.tape.proofs.Acceptance.{RootOf, Answers, answers_2, answers_3, answers_tape, answers}
 use Rattle.walk_state.specs.declared.writing.Walk.{Walk}
 use Rattle.walk_state.specs.declared.writing.Walk.TheVariants as walk
 use Rattle.answer.specs.Matches.{OutcomeMatches}
 use Rattle.answer.specs.Tapes.{on_first, accept_two}
-use Rattle.answer.specs.declared.tapes.Accepted.TheVariants.{Refused}
 use Rattle.definition.specs.Counts.{counts_after, when_read, when_taken}
 use Rattle.expansion.specs.Expansion.{after_walk}
 
@@ -38,12 +37,12 @@ outcome_counts s d t c (walk.Refused f k) bytes (Outcome.refused r n) counted gi
 
 module _ {A : Type 0} {root : Root A} (w : Rewrites root) (law : Lawful root) (s : List ℕ) (bytes : Bytes s) where
   -- of a tape that is refused nothing is made
-  refused_unread : {B : Type 0} {sort n : ℕ} → RootOf root sort → accept_of s sort ≡ opened.Refused n → (other : B) (k : A → B)
+  refused_unread : {B : Type 0} {sort : ℕ} {n : Fault} → RootOf root sort → accept_of s sort ≡ Err n → (other : B) (k : A → B)
       → when_read other (read root s) k ≡ other
   unfolding map_reading when_read
   refused_unread {sort = sort} {n} r e other k = rw (read_as root w law s bytes).one_scan (go (answers r s) e)
     where
-      go : {x : Opened} {y : Reading A} → Answers (weighted root) s x y → x ≡ opened.Refused n
+      go : {x : Result Layout Fault} {y : Reading A} → Answers (weighted root) s x y → x ≡ Err n
           → when_read other (map_reading (rewritten root) y) k ≡ other
       go answers_2 e = refl
       go answers_3 e = refl
@@ -51,22 +50,22 @@ module _ {A : Type 0} {root : Root A} (w : Rewrites root) (law : Lawful root) (s
 
 -- of two tapes
 pub refused_unread_two : {A B C : Type 0} {first : Root A} {second : Root B} → Rewrites first → Rewrites second → Lawful first → Lawful second
-    → {i j n : ℕ} → RootOf first i → RootOf second j → (s t : List ℕ) → Bytes s → Bytes t → accept_two s i t j ≡ Refused n
+    → {i j : ℕ} {n : Fault} → RootOf first i → RootOf second j → (s t : List ℕ) → Bytes s → Bytes t → accept_two s i t j ≡ Err n
     → (other : C) (k : A → B → C) → when_read other (read first s) (λ x. when_read other (read second t) (k x)) ≡ other
 unfolding accept_two when_read
 refused_unread_two {A} {B} {first = first} {second = second} v w law rule {i} {j} {n} r q s t p p' e other k = go (accept_of s i) refl e
   where
-    later : (d : Layout) (y : Opened) → accept_of t j ≡ y → on_first (opened.Tape d) y ≡ Refused n → (o : Reading A)
+    later : (d : Layout) (y : Result Layout Fault) → accept_of t j ≡ y → on_first (Ok d) y ≡ Err n → (o : Reading A)
         → when_read other o (λ x. when_read other (read second t) (k x)) ≡ other
-    later d (opened.Tape c) z e o = absurd (let z : ◌≡◌ {A = ℕ} 0 1 = cc in omega arith)
-    later d (opened.Refused m) z e Reading.malformed = refl
-    later d (opened.Refused m) z e Reading.too_large = refl
-    later d (opened.Refused m) z e (Reading.accepted x) = refused_unread w rule t p' q z other (k x)
+    later d (Ok c) z e o = absurd (let z : ◌≡◌ {A = ℕ} 0 1 = cc in omega arith)
+    later d (Err m) z e Reading.malformed = refl
+    later d (Err m) z e Reading.too_large = refl
+    later d (Err m) z e (Reading.accepted x) = refused_unread w rule t p' q z other (k x)
 
-    go : (x : Opened) → accept_of s i ≡ x → on_first x (accept_of t j) ≡ Refused n
+    go : (x : Result Layout Fault) → accept_of s i ≡ x → on_first x (accept_of t j) ≡ Err n
         → when_read other (read first s) (λ x. when_read other (read second t) (k x)) ≡ other
-    go (opened.Tape d) z e = later d (accept_of t j) refl e (read first s)
-    go (opened.Refused m) z e = refused_unread v law s p r z other (λ x. when_read other (read second t) (k x))
+    go (Ok d) z e = later d (accept_of t j) refl e (read first s)
+    go (Err m) z e = refused_unread v law s p r z other (λ x. when_read other (read second t) (k x))
 
 -- ------------------------------------------------------------------ what is taken
 

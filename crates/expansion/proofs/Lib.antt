@@ -1,5 +1,4 @@
 -- The laws that several proofs of the crate cite.
 mod Counts
 mod Operation
-mod Steps
 mod TreesWhole

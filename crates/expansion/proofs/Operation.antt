@@ -1,5 +1,6 @@
 -- The expansion's answer and its counts: what the walk came to, over two accepted tapes or their rewritings, is what the definition says.
 -- Assumes nothing.
+use Rattle.std.proofs.Common.{Ok, Err}
 use Prim.Native.Nat.{ℕ, ◌≤◌, ◌<◌, ◌^◌}
 use native.Mathlib.Omega.{arith}
 use mathlib.Core.Path.{◌≡◌, sym, ap, subst, ◌∙◌}
@@ -18,17 +19,16 @@ use Rattle.definition.specs.Outcome.{Outcome}
 use Rattle.definition.specs.Expand.{expand}
 use Rattle.definition.proofs.Kept.{expand_bounded}
 use Rattle.grammar.specs.Grammar as grammar
+use Rattle.tape.specs.Header.{fault_number}
+use Rattle.tape.specs.declared.header.Fault.{Fault}
 use Rattle.tape.specs.Ors.{ors_in}
 use Rattle.tape.specs.declared.layout.Layout.{Layout}
 use Rattle.tape.proofs.Located.{Alone}
 use Rattle.tape.proofs.Roots.{Accepted, registry_root_lem, condition_root_lem, accepted_root}
 use Rattle.de_morgan.specs.Rewritten.{rewritten_in, rewritten_layout}
 use Rattle.de_morgan.proofs.Rewritten.{rewritten_alone, given_alone}
-use Rattle.walk_state.specs.declared.writing.Walk.{Walk}
-use Rattle.answer.specs.Matches.{buffers, ended, AnswersOutcome}
-use Rattle.expand_calls.specs.Output.{Progress, progress}
+use Rattle.answer.specs.Matches.{buffers, ended}
 use Rattle.answer.specs.Tapes.{accept_two}
-use Rattle.answer.specs.declared.tapes.Accepted.TheVariants.{Both, Refused}
 use Rattle.answer.proofs.Operations.{accepted_read, first_accepted, second_accepted, long_enough, read_two, tree_short, tree_refused, tree_walked}
 use Rattle.registry.specs.Places.{index_at}
 use Rattle.registry.proofs.Standing.{indexed_registry}
@@ -37,30 +37,9 @@ use Rattle.definition.specs.Counts.{add_calls, counts_after, expand_counts}
 use Rattle.expand_counts.specs.Counting.{counted_in}
 use Rattle.expand_counts.proofs.Adding.{Bounded}
 use Rattle.expand_counts.proofs.Counted.{counted_is}
-use Rattle.expansion.specs.Expansion.{EndsExpansion, after_walk, named_in}
+use Rattle.expansion.specs.Expansion.{EndsExpansion, named_in}
 use Rattle.expansion.proofs.Counts.{outcome_counts, refused_unread_two, short_untaken, refused_untaken, taken}
 use Rattle.expansion.proofs.TreesWhole.{expansion_matches}
-
--- the walk leaves the two buffers as long as they were
-pub answered : (m limit file : ℕ) (registry input : List ℕ) (d c : Layout) {a : Answer} {w : Walk} (work result bytes final given : List ℕ) {counts : List ℕ}
-    → length bytes ≡ length work → length final ≡ length result
-    → (progress w bytes final ≡ named_in registry d 255 input c limit file work result)
-    × (counts ≡ after_walk w (counted_in registry d (index_at registry d 255) input c given) given)
-    → AnswersOutcome registry d input c w bytes (buffers (length final) (length bytes) m) a
-    → EndsExpansion registry d input c limit file work result (buffers (length result) (length work) m) given a counts
-answered m limit file registry input d c {a} {w} work result bytes final given kept held walked k =
-    let there = subst (λ (n : ℕ). AnswersOutcome registry d input c w bytes (buffers n (length bytes) m) a) held k in
-    record {
-      answers = rw (← walked.0) (subst (λ (n : ℕ). AnswersOutcome registry d input c w bytes (buffers (length result) n m) a) kept there);
-      counted = walked.1 ∙ ap (λ (X : Progress). after_walk X.walk (counted_in registry d (index_at registry d 255) input c given) given) walked.0;
-    }
-
--- the walk went over the rewritten tapes
-pub answered_rewritten : (limit file : ℕ) (registry input zeros : List ℕ) (d c : Layout) {e f : Layout} {first second : List ℕ} (work result : List ℕ) (b : Buffers)
-    (given : List ℕ) {a : Answer} {counts : List ℕ} → (e ≡ rewritten_layout registry d) × (first ≡ rewritten_in registry d zeros)
-    → (f ≡ rewritten_layout input c) × (second ≡ rewritten_in input c zeros) → EndsExpansion first e second f limit file work result b given a counts
-    → EndsExpansion (rewritten_in registry d zeros) (rewritten_layout registry d) (rewritten_in input c zeros) (rewritten_layout input c) limit file work result b given a counts
-answered_rewritten limit file registry input zeros d c work result b given p q k = rw (← p.0, ← p.1, ← q.0, ← q.1) k
 
 -- what is found of the trees as they were given
 abbrev find : (limit file : ℕ) → List MacroDef → Condition → Outcome Tree
@@ -90,8 +69,8 @@ module _ (r l m limit file : ℕ) (registry input : List ℕ) (p : Bytes registr
   short h k = (tree_short b (expand_tapes limit file registry input) h k, sym (short_untaken given b registry input counts_of h))
 
   -- a tape is refused
-  pub refused : {n : ℕ} {a : Answer} → long_buffers b ≡ true → accept_two registry grammar.definitions input grammar.condition ≡ Refused n
-      → a ≡ ended b (number_alone n) → Expands a given
+  pub refused : {f : Fault} {a : Answer} → long_buffers b ≡ true → accept_two registry grammar.definitions input grammar.condition ≡ Err f
+      → a ≡ ended b (number_alone (fault_number f)) → Expands a given
   unfolding expand_counts
   refused long e k = (
     tree_refused registry_root condition_root registry_root_lem condition_root_lem (find limit file) b registry input long e k ∙ sym as_accepted,
@@ -100,7 +79,7 @@ module _ (r l m limit file : ℕ) (registry input : List ℕ) (p : Bytes registr
   )
 
   module _ (small : limit < 2 ^ 32) (bounded : Bounded given) (long : long_buffers b ≡ true) {d c : Layout}
-      (e : accept_two registry grammar.definitions input grammar.condition ≡ Both d c) (work result : List ℕ) (room : l ≡ length work)
+      (e : accept_two registry grammar.definitions input grammar.condition ≡ Ok (d, c)) (work result : List ℕ) (room : l ≡ length work)
       (space : r ≡ length result) where
     first : (x : List MacroDef) × Accepted registry_root registry d x
     first = accepted_root registry_root_lem registry p d (first_accepted registry input grammar.definitions grammar.condition e)

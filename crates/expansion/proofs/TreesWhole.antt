@@ -1,5 +1,8 @@
 -- Two tapes, each with a tree alone on it: the expansion comes to the outcome that its definition has.
 -- Assumes nothing.
+use Rattle.nodes.specs.declared.Refusal.{Refusal}
+use Rattle.messages.specs.declared.Refused.{Refused}
+use Rattle.std.proofs.Common.{Option, Some, None, Result, Ok, Err}
 use Prim.Native.Nat.{ℕ, ◌≤◌}
 use native.Mathlib.Omega.{arith}
 use mathlib.Core.Path.{◌≡◌, refl, ◌∙◌}
@@ -26,8 +29,6 @@ use Rattle.tape.specs.Scan.{too_deep}
 use Rattle.tape.specs.declared.layout.Layout.{Layout}
 use Rattle.tape.specs.declared.layout.Place.{Place}
 use Rattle.nodes.specs.declared.Heading.{Heading}
-use Rattle.nodes.specs.declared.HeadingRead.{HeadingRead}
-use Rattle.nodes.specs.declared.HeadingRead.TheVariants as hr
 use Rattle.tape.proofs.Located.{Inside, Alone}
 use Rattle.tape.proofs.Roots.{nesting_64}
 use Rattle.format.proofs.Tests.{and_right}
@@ -36,11 +37,7 @@ use Rattle.area.specs.Area.{Area, area_in, empty_at, fits_area}
 use Rattle.messages.specs.Reason.{refused_at, message_of}
 use Rattle.messages.specs.declared.Reason.TheVariants.{WithoutMessage, Reserved}
 use Rattle.answer.specs.Matches.{VerdictMatches, OutcomeMatches}
-use Rattle.answer.specs.declared.Verdict.{Verdict}
-use Rattle.answer.specs.declared.Verdict.TheVariants.{Passes, Refused}
 use Rattle.registry.specs.Places.{Row, duplicate_of, and_then_in, get_at, name_check, check_at, build_from_at, build_at, index_at}
-use Rattle.registry.specs.declared.Found.{Found}
-use Rattle.registry.specs.declared.Found.TheVariants as found
 use Rattle.registry.proofs.Standing.{indexed_registry, ended_registry}
 use Rattle.registry.proofs.Verdicts.{build_matches}
 use Rattle.walk_state.specs.Writing as one
@@ -58,29 +55,29 @@ use Rattle.expand_walk.proofs.TreesRight.{right}
 
 module _ (s : List ℕ) (l : Layout) where
   -- a refusal that names the registry's tape alone
-  abbrev Own : Verdict → Type 0
-  Own Passes = Unit {0}
-  Own (Refused f) = (t t' : List ℕ) (c c' : Layout) → message_of s l t c f.reason ≡ message_of s l t' c' f.reason
+  abbrev Own : Result Unit Refused → Type 0
+  Own (Ok tt) = Unit {0}
+  Own (Err f) = (t t' : List ℕ) (c c' : Layout) → message_of s l t c f.reason ≡ message_of s l t' c' f.reason
 
-  own_then : (v w : Verdict) → Own v → Own w → Own (and_then_in v w)
-  own_then Passes w h k = k
-  own_then (Refused f) w h k = h
+  own_then : (v w : Result Unit Refused) → Own v → Own w → Own (and_then_in v w)
+  own_then (Ok tt) w h k = k
+  own_then (Err f) w h k = h
 
-  own_duplicate : (h : Heading) (f : Found) → Own (duplicate_of h f)
+  own_duplicate : (h : Heading) (f : Option (Heading × Place × ℕ)) → Own (duplicate_of h f)
   unfolding message_of
-  own_duplicate h found.Nothing = tt
-  own_duplicate h (found.Definition first params end) = λ t t' c c'. refl
+  own_duplicate h None = tt
+  own_duplicate h (Some (first, params, end)) = λ t t' c c'. refl
 
-  own_name : (b : Bool) (h : Heading) (f : Found) → Own (pick b (Refused (refused_at h.span (Reserved h.name))) (duplicate_of h f))
+  own_name : (b : Bool) (h : Heading) (f : Option (Heading × Place × ℕ)) → Own (pick b (Err (refused_at h.span (Reserved h.name))) (duplicate_of h f))
   unfolding message_of
   own_name true h f = λ t t' c c'. refl
   own_name false h f = own_duplicate h f
 
-  own_check : (seen : List Row) (x : HeadingRead) → Own (on_heading (Refused (refused_at 0 (WithoutMessage 2))) (λ h params. name_check s l seen h) x)
+  own_check : (seen : List Row) (x : Result (Heading × Place) Refusal) → Own (on_heading (Err (refused_at 0 (WithoutMessage 2))) (λ h params. name_check s l seen h) x)
   unfolding message_of
-  own_check seen (hr.Node h next) =
+  own_check seen (Ok (h, next)) =
       own_name (contains reserved_names (name_at s l h.name)) h (get_at s l seen (name_at s l h.name))
-  own_check seen (hr.Refused r) = λ t t' c c'. refl
+  own_check seen (Err r) = λ t t' c c'. refl
 
   own_build : (seen rest : List Row) → Own (build_from_at s l seen rest)
   unfolding build_from_at check_at
@@ -135,13 +132,13 @@ module _ (R : Reads) where
         (written_none 0 work (omega (arith, room)) (omega arith)))
 
     -- 10 and 11 before it
-    judged : (v : Verdict) (j : definition.Verdict) → VerdictMatches R.registry R.definitions v j → Own R.registry R.definitions v
+    judged : (v : Result Unit Refused) (j : definition.Verdict) → VerdictMatches R.registry R.definitions v j → Own R.registry R.definitions v
         → End (on_verdict (whole_in R work result) work result v) (unless j (expand_whole reg t) 0)
     unfolding VerdictMatches unless OutcomeMatches
-    judged Passes none matches own = whole_outcome_matches
-    judged Passes (some r) matches own = absurd matches
-    judged (Refused f) none matches own = absurd matches
-    judged (Refused f) (some r) matches own = (
+    judged (Ok tt) none matches own = whole_outcome_matches
+    judged (Ok tt) (some r) matches own = absurd matches
+    judged (Err f) none matches own = absurd matches
+    judged (Err f) (some r) matches own = (
       refl,
       record {
         its_number = matches.its_number;

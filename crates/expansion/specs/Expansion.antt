@@ -1,13 +1,12 @@
 -- The whole of an expansion: the names of the registry, the walk, and the largest figures.
 -- Assumes nothing.
-use Rattle.std.specs.Prelude.{ℕ, ◌≡◌, Bool, true, false, List}
+use Rattle.messages.specs.declared.Refused.{Refused}
+use Rattle.std.specs.Prelude.{ℕ, ◌≡◌, Bool, true, false, List, Result, Ok, Err}
 use Rattle.grammar.specs.Grammar as grammar
 use Rattle.definition.specs.Answers.{Answer, Buffers}
 use Rattle.tape.specs.Pick.{pick}
 use Rattle.tape.specs.declared.layout.Layout.{Layout}
 use Rattle.answer.specs.Matches.{AnswersOutcome}
-use Rattle.answer.specs.declared.Verdict.{Verdict}
-use Rattle.answer.specs.declared.Verdict.TheVariants as verdict
 use Rattle.registry.specs.Places.{Row, index_at, build_at}
 use Rattle.walk_state.specs.Writing.{state}
 use Rattle.area.specs.Area.{empty_at}
@@ -23,9 +22,9 @@ unfoldable pub whole_in : Reads → List ℕ → List ℕ → Progress
 whole_in R work result =
     on_work (refuse_too_large_in 0 grammar.condition) ((walkers R 64).condition (progress (walk.Going (state origin (empty_at 0) 0)) work result))
 
-abbrev pub on_verdict : Progress → List ℕ → List ℕ → Verdict → Progress
-on_verdict X work result verdict.Passes = X
-on_verdict X work result (verdict.Refused f) = progress (walk.Refused f 0) work result
+abbrev pub on_verdict : Progress → List ℕ → List ℕ → Result Unit Refused → Progress
+on_verdict X work result (Ok tt) = X
+on_verdict X work result (Err f) = progress (walk.Refused f 0) work result
 
 abbrev pub reads_of : List ℕ → Layout → List Row → List ℕ → Layout → (limit file : ℕ) → Reads
 reads_of reg d rs cond c limit file =

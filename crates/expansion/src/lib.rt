@@ -11,8 +11,8 @@ ghost use Rattle.definition.specs.Counts.{expand_counts};
 ghost use Rattle.expand_calls.specs.Output.{reads, progress};
 ghost use Rattle.expansion.specs.Expansion.{EndsExpansion, went_through, after_walk, whole_in, named_in};
 
-use answer::tapes::{Accepted, accept_two};
-use answer::{Answer, Verdict, answer_walk, long_buffers, number_alone};
+use answer::tapes::accept_two;
+use answer::{Answer, answer_walk, long_buffers, number_alone};
 use area::empty;
 use de_morgan::{rewrite, without_or};
 use expand_calls::output::Context;
@@ -26,13 +26,14 @@ use tape::layout::{Layout, Place};
 use walk_state::writing::{State, Walk};
 
 // What an expansion returns, and the registry state that it hands back.
-#[derive(Clone, Copy)]
+#[derive(Clone, Copy, Debug, PartialEq, Eq)]
 pub struct Expanded {
     pub answer: Answer,
     pub counts: Counts,
 }
 
 // The walk over the whole condition, and 3 with 0..0 if what it came to is too large.
+#[tactic(auto, unfolding(crate::specs::Expansion::whole_in))]
 fn expand_whole(
     reg: &[u8],
     places: &[usize],
@@ -43,10 +44,9 @@ fn expand_whole(
 ) -> Walk
     ensures { progress result work.new res.new ≡ whole_in (reads reg.now places.now cond.now x) work.old res.old }
 {
-    let out = empty(0);
     let start = State {
         place: Place { at: 0, text: 0 },
-        out,
+        out: empty(0),
         charged: 0,
     };
     let w = expand_condition(64, reg, places, cond, work, res, x, Walk::Going(start));
@@ -57,13 +57,11 @@ fn expand_whole(
 fn went_through(w: Walk) -> bool
     ensures { result ≡ went_through w }
 {
-    match w {
-        Walk::Going(_) => true,
-        Walk::Refused(_, _) => false,
-    }
+    matches!(w, Walk::Going(_))
 }
 
 // The walk, and then its calls counted, unless it is refused.
+#[tactic(auto, unfolding(crate::specs::Expansion::after_walk))]
 fn expand_counting(
     reg: &[u8],
     places: &[usize],
@@ -78,12 +76,12 @@ fn expand_counting(
     let w = expand_whole(reg, places, cond, work, res, x);
     if went_through(w) {
         count_calls(reg, x.registry, places, x.count, cond, x.condition, counts);
-        return w;
     }
     w
 }
 
 // 10 and 11, then the walk. The registry is indexed once.
+#[tactic(auto, unfolding(crate::specs::Expansion::named_in, crate::specs::Expansion::after_walk))]
 fn expand_named(
     reg: &[u8],
     d: Layout,
@@ -99,19 +97,17 @@ fn expand_named(
     ensures { (progress result work.new res.new ≡ named_in reg.now d (length places.old / 2) cond.now c limit file work.old res.old) × (counts.new ≡ after_walk result (counted_in reg.now d (index_at reg.now d (length places.old / 2)) cond.now c counts.old) counts.old) }
 {
     let count = index(reg, d, places);
-    match check_names(reg, d, places, count) {
-        Verdict::Passes => {
-            let x = Context {
-                registry: d,
-                count,
-                condition: c,
-                limit,
-                file,
-            };
-            expand_counting(reg, places, cond, work, res, x, counts)
-        }
-        Verdict::Refused(f) => Walk::Refused(f, 0),
+    if let Err(f) = check_names(reg, d, places, count) {
+        return Walk::Refused(f, 0);
     }
+    let x = Context {
+        registry: d,
+        count,
+        condition: c,
+        limit,
+        file,
+    };
+    expand_counting(reg, places, cond, work, res, x, counts)
 }
 
 // The rows of 255 definitions, as many as a registry can have.
@@ -192,16 +188,15 @@ pub fn expand_lent<'a>(
     if !long_buffers(res.len(), work.len(), message.len()) {
         return number_alone(1, 0, res, work, message);
     }
-    let accepted = accept_two(reg, DEFINITIONS, input, CONDITION);
-    match accepted {
-        Accepted::Both(d, c) => {
+    match accept_two(reg, DEFINITIONS, input, CONDITION) {
+        Ok((d, c)) => {
             if without_or(reg, d, input, c) {
                 expand_in(reg, d, input, c, limit, file, res, work, message, counts)
             } else {
                 expand_rewritten(reg, d, input, c, limit, file, res, work, message, counts)
             }
         }
-        Accepted::Refused(n) => number_alone(n, 0, res, work, message),
+        Err(fault) => number_alone(fault.number(), 0, res, work, message),
     }
 }
 

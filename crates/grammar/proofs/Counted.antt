@@ -1,25 +1,25 @@
 -- A count of the subtrees that are still to come keeps step with a scan's stack: as many as the waiting sorts say. Lists whose items are one
 -- subtree each wait only on top of it, or behind one entry: that of texts behind a span, that of arguments behind a text.
 -- Assumes nothing.
-use Prim.Native.Nat.{ℕ, zero, suc, ◌+◌, ◌-◌, ◌*◌, ◌/◌, ◌%◌, ◌≤◌, ◌<◌}
+use Prim.Native.Nat.{ℕ, zero, suc, ◌+◌, ◌-◌, ◌*◌, ◌%◌, ◌≤◌, ◌<◌}
 use mathlib.Core.Path.{◌≡◌, refl, ap, subst}
 use mathlib.Core.Bool.{Bool, true, false, not, ◌&&◌, ◌||◌}
 use mathlib.Core.List.{List, [], ◌∷◌, ◌++◌}
 use native.Mathlib.Decide.{dec_lt}
 use native.Mathlib.Omega.{arith}
-use borrow.Author.Tests.{lt-ltb, le-ltb, le-leb, lt-leb}
+use borrow.Author.Tests.{lt-ltb}
 use lib.Dec.{T, leb, ltb, eqb, leb→le, ltb→lt, nltb→le, eqb→eq}
 use lib.ListN.{get_or, replicate, get_or-eq_default}
 use Rattle.format.specs.Tape.{text_width}
 use Rattle.format.proofs.Tests.{and_left, and_right, and_both, from_true, is_true}
 use Rattle.grammar.specs.Counts.{due_of, has_pairs, count_words, step_with}
-use Rattle.grammar.specs.Grammar.{Follows, once, each, sorts_of, span, text, field, binding, texts, arguments}
+use Rattle.grammar.specs.Grammar.{Follows, once, each, sorts_of, span, text, texts, arguments}
 use Rattle.grammar.specs.Pick.{pick}
 use Rattle.grammar.specs.Waits.{counted}
 use Rattle.grammar.specs.Words.{temporal_words, sort_at, row_at, in_sort, text_mark, width_of, follows_in, follows_of}
-use Rattle.grammar.specs.declared.count.Counted.TheVariants.{On}
-use Rattle.grammar.proofs.Marks.{everywhere, past_row}
-use Rattle.grammar.proofs.Table.{every, at, same, same_eq}
+use Rattle.std.specs.Prelude.{Some}
+use Rattle.grammar.proofs.Marks.{everywhere, past_row, past_sort, same_below}
+use Rattle.grammar.proofs.Table.{every, at_both}
 
 -- ------------------------------------------------------------------ sorts that wait
 
@@ -47,11 +47,7 @@ pub data Counts : Bool → ℕ → List ℕ → Type 0 where
   opened : {due s t : ℕ} {ss : List ℕ} → T (is_opening s t) → T (all_clear ss) → due ≡ 2 + dues ss → Counts false due (s ∷ t ∷ ss)
 
 due_some : (s : ℕ) → 1 ≤ due_of s
-due_some s = go (leb field s && leb s binding)
-  where
-    go : (b : Bool) → 1 ≤ pick b 2 1
-    go true = omega arith
-    go false = omega arith
+due_some s = grind arith
 
 dues_append : (ss ts : List ℕ) → dues (ss ++ ts) ≡ dues ss + dues ts
 dues_append [] ts = omega arith
@@ -74,26 +70,10 @@ two_each zero s e = refl
 two_each (suc v) s e = omega (arith, e, two_each v s e)
 
 opening_dues : (s t : ℕ) → T (is_opening s t) → (due_of s ≡ 1) × (due_of t ≡ 1) × (t < 32) × (has_pairs t ≡ false)
-opening_dues s t o = go (eqb s span && eqb t texts) refl o
-  where
-    known : (a b : ℕ) → T (eqb s a && eqb t b) → (due_of a ≡ 1) × (due_of b ≡ 1) × (b < 32) × (has_pairs b ≡ false)
-        → (due_of s ≡ 1) × (due_of t ≡ 1) × (t < 32) × (has_pairs t ≡ false)
-    known a b u k = rw (eqb→eq s a (and_left (eqb s a) _ u), eqb→eq t b (and_right (eqb s a) _ u)) k
-
-    go : (b : Bool) → (eqb s span && eqb t texts) ≡ b → T (b || eqb s text && eqb t arguments)
-        → (due_of s ≡ 1) × (due_of t ≡ 1) × (t < 32) × (has_pairs t ≡ false)
-    go true e u = known span texts (from_true e) (refl, refl, omega arith, refl)
-    go false e u = known text arguments u (refl, refl, omega arith, refl)
+opening_dues s t o = (grind arith, grind arith, grind arith, grind arith)
 
 opening_first : (s t : ℕ) → T (is_opening s t) → (s < 32) × ((eqb s span || eqb s text) ≡ true)
-opening_first s t o = go (eqb s span && eqb t texts) refl o
-  where
-    known : (a b : ℕ) → T (eqb s a && eqb t b) → (a < 32) × ((eqb a span || eqb a text) ≡ true) → (s < 32) × ((eqb s span || eqb s text) ≡ true)
-    known a b u k = rw (eqb→eq s a (and_left (eqb s a) _ u)) k
-
-    go : (b : Bool) → (eqb s span && eqb t texts) ≡ b → T (b || eqb s text && eqb t arguments) → (s < 32) × ((eqb s span || eqb s text) ≡ true)
-    go true e u = known span texts (from_true e) (omega arith, refl)
-    go false e u = known text arguments u (omega arith, refl)
+opening_first s t o = (grind arith, grind arith)
 
 -- ------------------------------------------------------------------ the two tables
 
@@ -135,34 +115,6 @@ all_agree : T (every (λ (n : ℕ). every (agree n) 0 77) 0 32)
 unfolding temporal_words count_words follows_of
 all_agree = tt
 
--- no sort has a code past the table
-abbrev low : ℕ → Bool
-low n = leb (get_or temporal_words n 0 / 256 % 256) 77 && leb (get_or temporal_words n 0 / 16777216 % 256) 77
-
-all_low : T (every low 0 32)
-unfolding temporal_words
-all_low = tt
-
-no_code : (n c : ℕ) → n < 32 → 77 ≤ c → T (in_sort (get_or temporal_words n 0) c) → ⊥
-no_code n c h g t =
-    go (ltb c high) (ltb→lt c high) (and_right (leb (word % 256) c) _ t)
-  where
-    word : ℕ
-    word = get_or temporal_words n 0
-
-    high : ℕ
-    high = word / 256 % 256
-
-    is_low : T (low n)
-    is_low = at low 0 32 all_low n (omega arith) h
-
-    go : (b : Bool) → (T b → c < high) → T (b || leb (word / 65536 % 256) c && ltb c (word / 16777216 % 256)) → ⊥
-    go true f t = let p = f tt in let q = leb→le high 77 (and_left (leb high 77) _ is_low) in omega arith
-    go false f t =
-        let p = ltb→lt c (word / 16777216 % 256) (and_right (leb (word / 65536 % 256) c) _ t) in
-        let q = leb→le (word / 16777216 % 256) 77 (and_right (leb high 77) _ is_low) in
-        omega arith
-
 tables_agree : (n c : ℕ) → n < 32 → in_sort (get_or temporal_words n 0) c ≡ true → T (shaped n (get_or count_words c 0) (following n c)
     && pick (eqb n span || eqb n text) (single (get_or count_words c 0) (following n c)) true)
 tables_agree n c h i = go (dec_lt c 77)
@@ -172,12 +124,12 @@ tables_agree n c h i = go (dec_lt c 77)
 
     let_in : (b : Bool) → b ≡ true → T (not b || rest) → T rest
     let_in true e t = t
-    let_in false e t = absurd (let z : ◌≡◌ {A = ℕ} 0 1 = ap (λ (x : Bool). pick x 1 0) e in omega arith)
+    let_in false e t = absurd (cc)
 
     go : Dec (c < 77) → T rest
     go (yes g) = let_in (in_sort (get_or temporal_words n 0) c) i
-        (at (agree n) 0 77 (at (λ (m : ℕ). every (agree m) 0 77) 0 32 all_agree n (omega arith) h) c (omega arith) g)
-    go (no g) = absurd (no_code n c h (omega arith) (from_true i))
+        (at_both agree 32 77 all_agree n c h g)
+    go (no g) = absurd (past_sort n c h (omega arith) (from_true i))
 
 -- a text's number says that it is one
 abbrev text_count : ℕ → Bool
@@ -187,7 +139,7 @@ text_counts : (c : ℕ) → text_mark (row_at temporal_words c) ≡ text_count (
 unfolding temporal_words count_words
 text_counts =
     everywhere
-    (λ c h. same_eq _ _ (at (λ (k : ℕ). same (text_mark (row_at temporal_words k)) (text_count (get_or count_words k 0))) 0 77 tt c (omega arith) h))
+    (same_below (λ (k : ℕ). text_mark (row_at temporal_words k)) (λ (k : ℕ). text_count (get_or count_words k 0)) tt)
     (λ c h. rw (past_row c h, past_count c h))
   where
     past_count : (c : ℕ) → 77 ≤ c → get_or count_words c 0 ≡ 0
@@ -200,7 +152,7 @@ module _ (left room v x : ℕ) where
   pub record Steps (pairs : Bool) (due : ℕ) (ss : List ℕ) : Type 0 where
     pub more : ℕ
     pub next : Bool
-    pub steps : step_with x left room pairs v ≡ On more (text_width (text_count x) v) next
+    pub steps : step_with x left room pairs v ≡ Some (more, text_width (text_count x) v, next)
     pub counts : Counts next (due - 1 + more) ss
 
   -- one of a sort that is no list of single items
@@ -222,17 +174,17 @@ module _ (left room v x : ℕ) where
           record {
             more = x;
             next = true;
-            steps = rw (lt-ltb x 8 p, lt-leb 8 x p) refl;
+            steps = grind arith;
             counts = plain {due = due - 1 + x} {ss = ts ++ ss} (clear_append ts ss a c) (omega (arith, all, some));
           }
       alone false f g h a e =
           let p = g tt in
-          let is_text_lem : text_count x ≡ true = rw (le-leb 8 x p, lt-ltb x 16 h) refl in
+          let is_text_lem : text_count x ≡ true = grind arith in
           let q : v ≤ room = subst (λ (b : Bool). text_width b v ≤ room) is_text_lem fits in
           record {
             more = 0;
             next = true;
-            steps = rw (le-ltb x 8 p, is_text_lem, lt-ltb x 16 h, le-ltb room v q) refl;
+            steps = grind arith;
             counts = plain {due = due - 1 + 0} {ss = ts ++ ss} (clear_append ts ss a c) (omega (arith, all, some));
           }
 
@@ -245,7 +197,7 @@ module _ (left room v x : ℕ) where
           record {
             more = x % 8;
             next = false;
-            steps = rw (le-ltb x 8 (omega arith), le-leb 8 x (omega arith), le-ltb x 16 (omega arith), le-leb 32 x h) refl;
+            steps = grind arith;
             counts = opened {due = due - 1 + x % 8} {ss = us ++ ss} (and_left (is_opening s u) _ o) (clear_append us ss (and_right (is_opening s u) _ o) c) (omega (arith, pair.0, pair.1));
           }
 
@@ -281,14 +233,7 @@ module _ (left room v x : ℕ) where
           record {
             more = v;
             next = true;
-            steps = rw (
-              le-ltb x 8 (omega arith),
-              le-leb 8 x (omega arith),
-              le-ltb x 16 low,
-              lt-leb 32 x high,
-              le-ltb left v fits,
-              lt-ltb x 24 (f tt),
-            ) refl;
+            steps = grind arith;
             counts = plain {due = due - 1 + v} {ss = replicate v u ++ ss} (clear_append (replicate v u) ss (clear_replicate v u a) c) (omega (arith, all));
           }
       go false f g low high e a t =
@@ -296,14 +241,7 @@ module _ (left room v x : ℕ) where
           record {
             more = 2 * v;
             next = true;
-            steps = rw (
-              le-ltb x 8 (omega arith),
-              le-leb 8 x (omega arith),
-              le-ltb x 16 low,
-              lt-leb 32 x high,
-              le-ltb left v fits,
-              le-ltb x 24 (g tt),
-            ) refl;
+            steps = grind arith;
             counts = plain {due = due - 1 + 2 * v} {ss = replicate v u ++ ss} (clear_append (replicate v u) ss (clear_replicate v u a) c) (omega (arith, all));
           }
 
@@ -336,14 +274,7 @@ module _ (left room v x : ℕ) where
           record {
             more = v;
             next = true;
-            steps = rw (
-              le-ltb x 8 (omega arith),
-              le-leb 8 x (omega arith),
-              le-ltb x 16 low,
-              lt-leb 32 x high,
-              le-ltb left v fits,
-              le-ltb x 24 (g tt),
-            ) refl;
+            steps = grind arith;
             counts = plain {due = due - 1 + v} {ss = replicate v u ++ ss} (clear_append (replicate v u) ss (clear_replicate v u a) c) (omega (arith, all));
           }
 
@@ -362,17 +293,17 @@ module _ (left room v x : ℕ) where
           record {
             more = x;
             next = false;
-            steps = rw (lt-ltb x 8 q, lt-leb 8 x q) refl;
+            steps = grind arith;
             counts = listed {due = due - 1 + x} {ss = ss} h p c (omega arith);
           }
       go false f g h₁ e =
           let q = g tt in
-          let is_text_lem : text_count x ≡ true = rw (le-leb 8 x q, lt-ltb x 16 h₁) refl in
+          let is_text_lem : text_count x ≡ true = grind arith in
           let k : v ≤ room = subst (λ (b : Bool). text_width b v ≤ room) is_text_lem wide in
           record {
             more = 0;
             next = false;
-            steps = rw (le-ltb x 8 q, is_text_lem, lt-ltb x 16 h₁, le-ltb room v k) refl;
+            steps = grind arith;
             counts = listed {due = due - 1 + 0} {ss = ss} h p c (omega arith);
           }
 
@@ -410,11 +341,7 @@ module _ (left room c v : ℕ) where
 -- ------------------------------------------------------------------ the start
 
 single_due : (s : ℕ) → s < 32 → has_pairs s ≡ false → due_of s ≡ 1
-single_due s h e = go (has_pairs s) e (at (λ (n : ℕ). has_pairs n || eqb (due_of n) 1) 0 32 tt s (omega arith) h)
-  where
-    go : (b : Bool) → b ≡ false → T (b || eqb (due_of s) 1) → due_of s ≡ 1
-    go true e t = absurd (let z : ◌≡◌ {A = ℕ} 1 0 = ap (λ (x : Bool). pick x 1 0) e in omega arith)
-    go false e t = eqb→eq (due_of s) 1 t
+single_due s h e = grind arith
 
 pub start_counts : (s : ℕ) → s < 32 → Counts (has_pairs s) (due_of s) (s ∷ [])
 start_counts s h = go (has_pairs s) refl

@@ -1,19 +1,19 @@
 -- How deep a tree of document 01's table can be, by its codes alone: codes have weights and sorts have rooms, and what stands at a place goes no
 -- deeper than its sort's room and the weights of its codes together. Whether weights and rooms are such is computed, code by code.
 -- Assumes nothing.
-use Prim.Native.Nat.{ℕ, zero, suc, ◌+◌, ◌≤◌, ◌<◌, ◌/◌, ◌%◌}
+use Prim.Native.Nat.{ℕ, zero, suc, ◌+◌, ◌≤◌, ◌<◌, ◌%◌}
 use mathlib.Core.Path.{◌≡◌}
 use mathlib.Core.Bool.{Bool, true, false, not, ◌&&◌, ◌||◌}
 use mathlib.Core.List.{List, [], ◌∷◌}
 use native.Mathlib.Omega.{arith}
-use lib.Dec.{T, leb, ltb, leb→le, ltb→lt}
+use lib.Dec.{T, leb, leb→le}
 use lib.ListN.{get_or, replicate}
 use Rattle.format.proofs.All.{All, all_nil, all_cons}
 use Rattle.format.proofs.Tests.{and_left, and_right, from_true}
 use Rattle.grammar.specs.Grammar.{Follows, once, each, sorts_of}
 use Rattle.grammar.specs.Words.{temporal_words, sort_at, row_at, in_sort, nesting_of, follows_in, follows_of}
-use Rattle.grammar.proofs.Marks.{everywhere}
-use Rattle.grammar.proofs.Table.{every, at}
+use Rattle.grammar.proofs.Marks.{past_sort, everywhere}
+use Rattle.grammar.proofs.Table.{every, at_both}
 
 -- the room of a sort
 abbrev pub room_of : List ℕ → ℕ → ℕ
@@ -56,28 +56,6 @@ enough weight rooms n c =
 abbrev pub is_enough : (ℕ → ℕ) → List ℕ → Bool
 is_enough weight rooms = every (λ (n : ℕ). every (enough weight rooms n) 0 77) 0 32
 
--- no sort has a code past the table
-abbrev ends : ℕ → Bool
-ends n = leb (get_or temporal_words n 0 / 256 % 256) 77 && leb (get_or temporal_words n 0 / 16777216 % 256) 77
-
-all_end : T (every ends 0 32)
-unfolding temporal_words
-all_end = tt
-
-no_sort_lem : (s c : ℕ) → 77 ≤ c → T (in_sort (sort_at temporal_words s) c) → ⊥
-no_sort_lem s c h i =
-    let t = at ends 0 32 all_end (s % 32) (omega arith) (omega arith) in
-    let low = leb (get_or temporal_words (s % 32) 0 / 256 % 256) 77 in
-    let a = leb→le (get_or temporal_words (s % 32) 0 / 256 % 256) 77 (and_left low _ t) in
-    let b = leb→le (get_or temporal_words (s % 32) 0 / 16777216 % 256) 77 (and_right low _ t) in
-    go (get_or temporal_words (s % 32) 0 / 65536 % 256) (ltb c (get_or temporal_words (s % 32) 0 / 256 % 256))
-    (ltb→lt c (get_or temporal_words (s % 32) 0 / 256 % 256)) a b
-    (and_right (leb (get_or temporal_words (s % 32) 0 % 256) c) _ i)
-  where
-    go : {x y : ℕ} (z : ℕ) (p : Bool) → (T p → c < x) → x ≤ 77 → y ≤ 77 → T (p || leb z c && ltb c y) → ⊥
-    go z true f a b t = let g = f tt in omega arith
-    go {y = y} z false f a b t = let g = ltb→lt c y (and_right (leb z c) _ t) in omega arith
-
 -- what it says of a code that stands at a place of a sort
 pub record Bounded (weight : ℕ → ℕ) (rooms : List ℕ) (s c : ℕ) : Type 0 where
   pub itself : nesting_of false (row_at temporal_words c) ≤ room_of rooms s + weight c
@@ -89,12 +67,12 @@ pub bounded : (weight : ℕ → ℕ) (rooms : List ℕ) → T (is_enough weight 
     → (s c : ℕ) → in_sort (sort_at temporal_words s) c ≡ true → Bounded weight rooms s c
 bounded weight rooms all s =
     everywhere {P = λ (c : ℕ). in_sort (sort_at temporal_words s) c ≡ true → Bounded weight rooms s c} inside
-    (λ c h i. absurd (no_sort_lem s c h (from_true i)))
+    (λ c h i. absurd (past_sort (s % 32) c (omega arith) h (from_true i)))
   where
     inside : (c : ℕ) → c < 77 → in_sort (sort_at temporal_words s) c ≡ true → Bounded weight rooms s c
     inside c h i =
         go (in_sort (sort_at temporal_words s) c) i
-        (at (enough weight rooms (s % 32)) 0 77 (at (λ (n : ℕ). every (enough weight rooms n) 0 77) 0 32 all (s % 32) (omega arith) (omega arith)) c (omega arith) h)
+        (at_both (enough weight rooms) 32 77 all (s % 32) c (omega arith) h)
       where
         low : Bool
         low = leb (nesting_in c) (room_of rooms s + weight c)
@@ -103,7 +81,7 @@ bounded weight rooms all s =
         after = follows_of (follows_in (sort_at temporal_words s) (row_at temporal_words c))
 
         go : (i : Bool) → i ≡ true → T (not i || (low && within (nesting_in c) (room_of rooms s + weight c) rooms after)) → Bounded weight rooms s c
-        go false e t = absurd (let z : ◌≡◌ {A = ℕ} 0 1 = cc in omega arith)
+        go false e t = absurd (cc)
         go true e t =
             record {
               itself = leb→le (nesting_in c) (room_of rooms s + weight c) (and_left low _ t);

@@ -22,6 +22,10 @@ at f low (suc n) t k h₁ h₂ = go (ℕ_discrete low k) (at f (suc low) n (and_
     go (yes e) next = subst (λ (m : ℕ). T (f m)) e (and_left (f low) (every f (suc low) n) t)
     go (no ne) next = next (omega arith) (omega arith)
 
+-- the same of a test of two numbers
+pub at_both : (f : ℕ → ℕ → Bool) (m n : ℕ) → T (every (λ (k : ℕ). every (f k) 0 n) 0 m) → (i j : ℕ) → i < m → j < n → T (f i j)
+at_both f m n t i j g h = at (f i) 0 n (at (λ (k : ℕ). every (f k) 0 n) 0 m t i (omega arith) (omega arith)) j (omega arith) (omega arith)
+
 abbrev pub same : Bool → Bool → Bool
 same true b = b
 same false true = false

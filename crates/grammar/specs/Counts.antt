@@ -1,10 +1,8 @@
 -- A subtree passed over by counting the subtrees that are still to come: what an entry adds to the count.
 -- Assumes nothing.
-use Rattle.std.specs.Prelude.{ℕ, ◌+◌, ◌*◌, ◌%◌, ◌≤◌, List, [], ◌∷◌, ◌++◌, map, Bool, true, false, not, ◌&&◌, ◌||◌, leb, ltb, eqb, length, get_or, take, drop}
+use Rattle.std.specs.Prelude.{ℕ, ◌+◌, ◌*◌, ◌%◌, ◌≤◌, List, [], ◌∷◌, ◌++◌, map, Bool, true, false, not, ◌&&◌, ◌||◌, leb, ltb, eqb, length, get_or, take, drop, Option, Some, None}
 use Rattle.grammar.specs.Grammar.{Follows, once, each, Mark, Row, rows, field, binding, texts, arguments, definitions}
 use Rattle.grammar.specs.Pick.{pick}
-use Rattle.grammar.specs.declared.count.Counted.{Counted}
-use Rattle.grammar.specs.declared.count.Counted.TheVariants.{Refused, On}
 
 -- how many subtrees there are of a sort: a field, a parameter and a binding are two
 abbrev pub due_of : ℕ → ℕ
@@ -46,16 +44,17 @@ count_words = map count_row (take 41 rows) ++ (24 ∷ map count_row (drop 42 row
 
 -- ------------------------------------------------------------------ a step
 
--- what an entry adds, with `left` entries behind it and `room` bytes of text left
-abbrev pub step_with : (count left room : ℕ) → Bool → (value : ℕ) → Counted
+-- what an entry adds, with `left` entries behind it and `room` bytes of text left: subtrees, bytes of text, and whether the items of the
+-- next list are two subtrees each; or it may not stand there
+abbrev pub step_with : (count left room : ℕ) → Bool → (value : ℕ) → Option (ℕ × ℕ × Bool)
 step_with count left room pairs value =
-    pick (ltb count 8) (On count 0 pairs)
-    (pick (ltb count 16) (pick (ltb room value) Refused (On 0 value pairs))
-    (pick (leb 32 count) (On (count % 8) 0 false)
-    (pick (ltb left value) Refused
-    (pick (ltb count 24) (On value 0 pairs) (pick pairs (On (2 * value) 0 true) (On value 0 true))))))
+    pick (ltb count 8) (Some (count, 0, pairs))
+    (pick (ltb count 16) (pick (ltb room value) None (Some (0, value, pairs)))
+    (pick (leb 32 count) (Some (count % 8, 0, false))
+    (pick (ltb left value) None
+    (pick (ltb count 24) (Some (value, 0, pairs)) (pick pairs (Some (2 * value, 0, true)) (Some (value, 0, true)))))))
 
-abbrev pub step_in : List ℕ → (left room : ℕ) → Bool → (code value : ℕ) → Counted
+abbrev pub step_in : List ℕ → (left room : ℕ) → Bool → (code value : ℕ) → Option (ℕ × ℕ × Bool)
 step_in g left room pairs code value = step_with (get_or g code 0) left room pairs value
 
 -- what it adds is small
@@ -63,6 +62,6 @@ pub record Small (room more width : ℕ) : Type 0 where
   pub more_most : more ≤ 2048
   pub width_most : width ≤ room
 
-abbrev pub StepFits : ℕ → Counted → Type 0
-StepFits room Refused = Unit {0}
-StepFits room (On more width pairs) = Small room more width
+abbrev pub StepFits : ℕ → Option (ℕ × ℕ × Bool) → Type 0
+StepFits room None = Unit {0}
+StepFits room (Some (more, width, pairs)) = Small room more width

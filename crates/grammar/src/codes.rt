@@ -1,5 +1,5 @@
 // Document 01's table "Codes on the tape" as constants; specs/Grammar.antt has it with names, specs/Words.antt says how it is written.
-ghost use Rattle.std.specs.Prelude.{◌≡◌, ◌&&◌, ◌||◌, ◌<◌, get_or};
+ghost use Rattle.std.specs.Prelude.{◌≡◌, ◌<◌, get_or};
 ghost use Rattle.grammar.specs.Words.{follows_in, in_sort, is_each, temporal_words};
 
 // The sorts.
@@ -190,6 +190,7 @@ const GRAMMAR: [u64; 109] = [
 ];
 
 // The table, for a scan to lend.
+#[tactic(auto, unfolding(crate::specs::Words::temporal_words))]
 pub fn table() -> [u64; 109]
     ensures { result ≡ temporal_words }
 {
@@ -200,7 +201,7 @@ pub fn table() -> [u64; 109]
 pub fn word_at(grammar: &[u64], i: usize) -> u64
     ensures { result ≡ get_or grammar.now i 0 }
 {
-    if i < grammar.len() { grammar[i] } else { 0 }
+    grammar.get(i).copied().unwrap_or(0)
 }
 
 // Whether a code is one of a sort's.
@@ -208,13 +209,8 @@ pub fn in_sort(sort: u64, code: u8) -> bool
     ensures { result ≡ in_sort sort code }
 {
     let c = code as u64;
-    if c < sort % 256 {
-        return false;
-    }
-    if c < sort / 256 % 256 {
-        return true;
-    }
-    both(sort / 65536 % 256 <= c, c < sort / 16777216 % 256)
+    sort % 256 <= c
+        && (c < sort / 256 % 256 || (sort / 65536 % 256 <= c) & (c < sort / 16777216 % 256))
 }
 
 // The word of what follows a code at a place of a sort.
@@ -229,18 +225,5 @@ pub fn follows_in(sort: u64, row: u64) -> u64
 pub fn is_each(follows: u64) -> bool
     ensures { result ≡ is_each follows }
 {
-    both(32 <= follows, follows < 64)
-}
-
-// `&&` and `||` of values, as calls: what calls them goes on in one way and not in two, and so does its proof.
-pub fn both(a: bool, b: bool) -> bool
-    ensures { result ≡ (a && b) }
-{
-    if a { b } else { false }
-}
-
-pub fn either(a: bool, b: bool) -> bool
-    ensures { result ≡ (a || b) }
-{
-    if a { true } else { b }
+    (32 <= follows) & (follows < 64)
 }

@@ -3,7 +3,7 @@
 ghost use Rattle.std.specs.Prelude.{◌≡◌, ◌≤◌, ◌<◌, get_or};
 ghost use Rattle.grammar.specs.Counts.{due_of, has_pairs, count_words, step_in, StepFits};
 
-use crate::codes::{ARGUMENTS, BINDING, DEFINITIONS, FIELD, TEXTS, both};
+use crate::codes::{ARGUMENTS, BINDING, DEFINITIONS, FIELD, TEXTS};
 
 // The value is a text's length; it says how many subtrees follow; it is a list's; the items of the next list are one subtree each.
 const TEXT: u8 = 8;
@@ -96,6 +96,7 @@ const COUNTS: [u8; 77] = [
 ];
 
 // The table, for a count to lend.
+#[tactic(auto, unfolding(crate::specs::Counts::count_words))]
 pub fn counts() -> [u8; 77]
     ensures { result ≡ count_words }
 {
@@ -106,19 +107,14 @@ pub fn counts() -> [u8; 77]
 fn count_at(counts: &[u8], code: u8) -> u64
     ensures { (result ≡ get_or counts.now code 0) × (result < 256) }
 {
-    let i = code as usize;
-    if i < counts.len() {
-        counts[i] as u64
-    } else {
-        0
-    }
+    u64::from(counts.get(usize::from(code)).copied().unwrap_or(0))
 }
 
 // How many subtrees there are of a sort: a field, a parameter and a binding are two.
 pub fn due_of(sort: u64) -> u64
     ensures { (result ≡ due_of sort) × (result ≤ 2) }
 {
-    if both(FIELD <= sort, sort <= BINDING) {
+    if (FIELD <= sort) & (sort <= BINDING) {
         2
     } else {
         1
@@ -129,49 +125,43 @@ pub fn due_of(sort: u64) -> u64
 pub fn has_pairs(sort: u64) -> bool
     ensures { result ≡ has_pairs sort }
 {
-    if sort == TEXTS {
-        return false;
-    }
-    if sort == ARGUMENTS {
-        return false;
-    }
-    sort != DEFINITIONS
+    !matches!(sort, TEXTS | ARGUMENTS | DEFINITIONS)
 }
 
-// What an entry does to a count: it may not stand there, or it brings so many subtrees and bytes of text, and the items of the next list are
-// two subtrees each or not.
-#[derive(Clone, Copy)]
-pub enum Counted {
-    Refused,
-    On(u64, usize, bool),
-}
-
-// With `left` entries behind the entry and `room` bytes of text left.
-pub fn step(counts: &[u8], left: usize, room: usize, pairs: bool, code: u8, value: u64) -> Counted
+// What an entry does to a count, with `left` entries behind it and `room` bytes of text left: it may not stand there, or it brings so many
+// subtrees and bytes of text, and the items of the next list are two subtrees each or not.
+pub fn step(
+    counts: &[u8],
+    left: usize,
+    room: usize,
+    pairs: bool,
+    code: u8,
+    value: u64,
+) -> Option<(u64, usize, bool)>
     requires { left ≤ 1024 }
     ensures { (result ≡ step_in counts.now left room «pairs» code value) × StepFits room result }
 {
     let count = count_at(counts, code);
     if count < 8 {
-        return Counted::On(count, 0, pairs);
+        return Some((count, 0, pairs));
     }
     if count < 16 {
         if (room as u64) < value {
-            return Counted::Refused;
+            return None;
         }
-        return Counted::On(0, value as usize, pairs);
+        return Some((0, value as usize, pairs));
     }
     if 32 <= count {
-        return Counted::On(count % 8, 0, false);
+        return Some((count % 8, 0, false));
     }
     if (left as u64) < value {
-        return Counted::Refused;
+        return None;
     }
     if count < 24 {
-        return Counted::On(value, 0, pairs);
+        return Some((value, 0, pairs));
     }
     if pairs {
-        return Counted::On(2 * value, 0, true);
+        return Some((2 * value, 0, true));
     }
-    Counted::On(value, 0, true)
+    Some((value, 0, true))
 }

@@ -4,7 +4,7 @@ ghost use Rattle.format.specs.Limits.{is_node};
 ghost use Rattle.format.specs.Tape.{is_text, text_width};
 ghost use Rattle.grammar.specs.Kind.{kind_of};
 
-#[derive(Clone, Copy)]
+#[derive(Clone, Copy, Debug, PartialEq, Eq)]
 enum ValueKind {
     Text,
     Span,
@@ -13,6 +13,7 @@ enum ValueKind {
 }
 
 // Document 01: "An entry with text has its length as value".
+#[tactic(auto, unfolding(format::specs::Tape::is_text, format::specs::Macro::is_code, crate::specs::Kind::is_span, crate::specs::Kind::is_count, crate::specs::Kind::kind_of))]
 fn kind_of(code: u8) -> ValueKind
     ensures { result ≡ kind_of code }
 {
@@ -25,18 +26,18 @@ fn kind_of(code: u8) -> ValueKind
 }
 
 // How many bytes of text an entry takes.
+#[tactic(auto, unfolding(crate::specs::Kind::kind_of, format::specs::Tape::text_width))]
 pub fn text_width(code: u8, value: u64) -> u64
     ensures { result ≡ text_width (is_text code) value }
 {
     match kind_of(code) {
         ValueKind::Text => value,
-        ValueKind::Span => 0,
-        ValueKind::Count => 0,
-        ValueKind::Plain => 0,
+        ValueKind::Span | ValueKind::Count | ValueKind::Plain => 0,
     }
 }
 
 // Whether an entry has text. The codes stand one by one, so that the compiler makes one test of a set of them.
+#[tactic(auto, unfolding(format::specs::Tape::is_text, format::specs::Macro::is_code))]
 pub fn is_text(code: u8) -> bool
     ensures { result ≡ is_text code }
 {
@@ -60,11 +61,9 @@ pub fn is_text(code: u8) -> bool
 }
 
 // Whether an entry is a condition, a term or an aggregate.
+#[tactic(auto, unfolding(format::specs::Limits::is_node))]
 pub fn is_node(code: u8) -> bool
     ensures { result ≡ is_node code }
 {
-    match code {
-        1..=13 | 20..=36 => true,
-        _ => false,
-    }
+    matches!(code, 1..=13 | 20..=36)
 }

@@ -125,6 +125,7 @@ const PROVIDER: [u64; 109] = [
 ];
 
 // The table, for a scan to lend.
+#[tactic(auto, unfolding(crate::specs::Words::provider_words))]
 pub fn table() -> [u64; 109]
     ensures { result ≡ provider_words }
 {

@@ -9,7 +9,7 @@ use crate::codes::is_each;
 
 // The sorts of `word`, the first in its lowest two octal digits, and the last of them `more` times more; all below `nesting` nodes and
 // `calls` calls.
-#[derive(Clone, Copy)]
+#[derive(Clone, Copy, Debug, PartialEq, Eq)]
 pub struct Cell {
     pub word: u64,
     pub more: u64,
@@ -47,6 +47,7 @@ pub fn put(stack: &mut [u64], top: usize, c: Cell) -> usize
 
 // The stack without the first sort of the cell on top of it, which is `w`: the cell has other sorts, or its last sort once more, or it is
 // used up.
+#[tactic(auto, using(crate::proofs::Cells::dropped_word, crate::proofs::Cells::dropped_more, crate::proofs::Cells::dropped_last))]
 pub fn drop_first(stack: &mut [u64], top: usize, w: u64) -> usize
     requires { top < length stack.old }
     ensures { Grown (top + 1) 1 stack.new result (drop 1 (waits_of (cell_of w)) ++ stack_of stack.old (top + 1)) }
@@ -62,6 +63,7 @@ pub fn drop_first(stack: &mut [u64], top: usize, w: u64) -> usize
 }
 
 // What follows an entry with this value, below `nesting` nodes and `calls` calls.
+#[tactic(auto, using(crate::proofs::Cells::counted_each, crate::proofs::Cells::follow_each), unfolding(crate::specs::Words::follows_of, crate::specs::Stack::waits_of))]
 pub fn push(
     stack: &mut [u64],
     top: usize,

@@ -38,18 +38,20 @@ fn read_full(reader: &mut impl Read, buffer: &mut [u8]) -> io::Result<usize>
 
 // An input that ends before its registry does, or a registry longer than any tape, is 2.
 fn run(rt: &impl Print, input: &[u8]) -> io::Result<()> {
-    if input.len() < 4 {
-        return print_line(rt, 0, 2, 0, 0, 0);
+    match split(input) {
+        Some((registry, sheet)) => expand_sheet(rt, registry, sheet),
+        None => print_line(rt, 0, 2, 0, 0, 0),
     }
+}
+
+// The registry and the sheet.
+fn split(input: &[u8]) -> Option<(&[u8], &[u8])> {
+    let (_, tapes) = input.split_at_checked(4)?;
     let length = read_size(input, 0) as usize;
     if 12296 < length {
-        return print_line(rt, 0, 2, 0, 0, 0);
+        return None;
     }
-    let end = 4 + length;
-    if input.len() < end {
-        return print_line(rt, 0, 2, 0, 0, 0);
-    }
-    expand_sheet(rt, &input[4..end], &input[end..])
+    tapes.split_at_checked(length)
 }
 
 fn expand_sheet<'a>(rt: &impl Print, registry: &'a [u8], sheet: &'a [u8]) -> io::Result<()> {
@@ -95,12 +97,11 @@ fn print_steps<'a>(
     message: &mut [u8],
     counts: &mut [u32],
 ) -> io::Result<()> {
-    let count = start.left;
     let mut p = start;
-    while 0 < p.left {
+    for i in 0..start.left {
         let step = sheet::next(registry, sheet, p, res, work, message, counts);
         p = step.progress;
-        print_answer(rt, count - p.left, step.answer)?;
+        print_answer(rt, i + 1, step.answer)?;
     }
     Ok(())
 }

@@ -1,3 +1,3 @@
 -- The laws that the proofs of the crate cite.
-mod Own
-mod Operation
+pub mod Own
+pub mod Operation

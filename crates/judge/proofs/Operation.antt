@@ -1,6 +1,8 @@
 -- The operation's answer is what the definition says: a buffer is too short; one of the first two tapes is refused; the third is; the
 -- expansion is refused; the supplied tape is our result but for names, or it is not.
 -- Assumes nothing.
+use Rattle.tape.specs.declared.header.Fault.{Fault}
+use Rattle.std.proofs.Common.{Result, Ok, Err}
 use Prim.Native.Nat.{ℕ, zero, suc, ◌^◌, ◌<◌}
 use mathlib.Core.Path.{◌≡◌, refl, sym, ap, ap₂, subst, ◌∙◌}
 use mathlib.Core.List.{List, []}
@@ -21,14 +23,12 @@ use Rattle.definition.specs.Judge.{require_equal, judge, longest_name, judge_tap
 use Rattle.grammar.specs.Grammar as grammar
 use Rattle.grammar.specs.Waits.{is_limited}
 use Rattle.tape.specs.Accept.{accept_named}
-use Rattle.tape.specs.declared.header.Opened.{Opened}
-use Rattle.tape.specs.declared.header.Opened.TheVariants as opened
+use Rattle.tape.specs.Header.{fault_number}
 use Rattle.tape.specs.declared.layout.Layout.{Layout}
 use Rattle.format.proofs.Accepted.{bytes_all}
 use Rattle.tape.proofs.Roots.{Accepted, registry_root_lem, condition_root_lem, named_root_lem, accepted_root}
 use Rattle.answer.specs.Matches.{buffers, ended}
 use Rattle.answer.specs.Tapes.{accept_two}
-use Rattle.answer.specs.declared.tapes.Accepted.TheVariants.{Both, Refused}
 use Rattle.answer.proofs.Operations.{refused_tape, accepted_read, first_accepted, second_accepted, read_rewritten, read_two, long_enough, ends_refused, tree_short, tree_refused}
 use Rattle.judge_names.specs.Compared.{equal_in}
 use Rattle.judge_names.proofs.Compared.{equal_is}
@@ -41,7 +41,7 @@ longest_limited zero = refl
 longest_limited (suc f) = refl
 
 -- the third tape, as the code accepts it
-pub as_opened : (file : ℕ) (supplied : List ℕ) {most : ℕ} {x o : Opened} → most ≡ longest_name file → x ≡ accept_named most supplied grammar.condition → x ≡ o
+pub as_opened : (file : ℕ) (supplied : List ℕ) {most : ℕ} {x o : Result Layout Fault} → most ≡ longest_name file → x ≡ accept_named most supplied grammar.condition → x ≡ o
     → accept_named (longest_name file) supplied grammar.condition ≡ o
 as_opened file supplied e k t = rw (← e) (sym k ∙ t)
 
@@ -107,13 +107,13 @@ module _ (r l m limit file : ℕ) (registry input supplied : List ℕ) (p : Byte
   unfolding judge_answer
   short h k = tree_short b (judge_tapes limit file registry input supplied) h k
 
-  pub refused : {n : ℕ} {a : Answer} → long_buffers b ≡ true → accept_two registry grammar.definitions input grammar.condition ≡ Refused n
-      → a ≡ ended b (number_alone n) → a ≡ judge_answer b limit file registry input supplied
+  pub refused : {f : Fault} {a : Answer} → long_buffers b ≡ true → accept_two registry grammar.definitions input grammar.condition ≡ Err f
+      → a ≡ ended b (number_alone (fault_number f)) → a ≡ judge_answer b limit file registry input supplied
   refused long e k =
       tree_refused registry_root condition_root registry_root_lem condition_root_lem (λ x y. found (rewritten registry_root x) (rewritten condition_root y)) b registry input long e k
       ∙ sym as_accepted
 
-  module _ (s : Bytes supplied) (long : long_buffers b ≡ true) {d c : Layout} (e : accept_two registry grammar.definitions input grammar.condition ≡ Both d c) where
+  module _ (s : Bytes supplied) (long : long_buffers b ≡ true) {d c : Layout} (e : accept_two registry grammar.definitions input grammar.condition ≡ Ok (d, c)) where
     first : (x : List MacroDef) × Accepted registry_root registry d x
     first = accepted_root registry_root_lem registry p d (first_accepted registry input grammar.definitions grammar.condition e)
 
@@ -140,18 +140,18 @@ module _ (r l m limit file : ℕ) (registry input supplied : List ℕ) (p : Byte
     unfolding expand_answer expand_tapes reading
     as_expanded = rw (its_registry, its_condition) refl
 
-    pub third_refused : {n : ℕ} {a : Answer} → accept_named (longest_name file) supplied grammar.condition ≡ opened.Refused n → a ≡ ended b (number_alone n)
+    pub third_refused : {f : Fault} {a : Answer} → accept_named (longest_name file) supplied grammar.condition ≡ Err f → a ≡ ended b (number_alone (fault_number f))
         → a ≡ judge_answer b limit file registry input supplied
     unfolding tree_answer
-    third_refused {n} k h =
+    third_refused {f} k h =
         let most : ℕ = longest_name file in
-        ends_refused (λ (t : Tree). encode (flat_tree t)) b (found defs rule) n long
+        ends_refused (λ (t : Tree). encode (flat_tree t)) b (found defs rule) (fault_number f) long
         (read_rewritten (rewrites_named most) (lawful_named most) supplied s (judge limit file defs rule)
         ∙ refused_tape their_root (named_root_lem most (longest_limited file)) supplied (λ z. judge limit file defs rule (rewritten their_root z)) k)
         h
         ∙ sym as_third
 
-    module _ {t : Layout} (k : accept_named (longest_name file) supplied grammar.condition ≡ opened.Tape t) where
+    module _ {t : Layout} (k : accept_named (longest_name file) supplied grammar.condition ≡ Ok t) where
       third : (z : Condition) × Accepted their_root supplied t z
       third = accepted_root (named_root_lem (longest_name file) (longest_limited file)) supplied s t k
 

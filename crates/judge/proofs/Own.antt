@@ -2,7 +2,7 @@
 -- our own result (`own_result`): its tape is accepted as the supplier's, and what is read there is our result but for names. Its sizes are
 -- those that a preview gives. And a refusal's number is not 0.
 -- Assumes nothing.
-use Prim.Native.Nat.{ℕ, ◌+◌, ◌-◌, ◌^◌, ◌≤◌, ◌<◌}
+use Prim.Native.Nat.{ℕ, zero, suc, ◌+◌, ◌-◌, ◌^◌, ◌≤◌, ◌<◌}
 use native.Mathlib.Omega.{arith}
 use mathlib.Core.Path.{◌≡◌, refl, sym, ap, ap₂, subst, ◌∙◌}
 use mathlib.Core.List.{List, [], ◌∷◌, ◌++◌}
@@ -31,6 +31,13 @@ use Rattle.definition.proofs.OwnResult.{own_result}
 use Rattle.definition.proofs.Preview.{previews}
 use Rattle.answer.proofs.Operations.{long_enough}
 use Rattle.judge_names.proofs.Compared.{Kept}
+
+-- ------------------------------------------------------------------ the longest name
+
+pub longest_above : (file : ℕ) → (file ≡ 0 → ⊥) → longest_name file ≡ 81
+unfolding longest_name
+longest_above zero h = absurd (h refl)
+longest_above (suc f) h = refl
 
 -- ------------------------------------------------------------------ a refusal
 

@@ -1,4 +1,4 @@
 -- Laws of the comparison, for the proofs here and above.
-mod Steps
+pub mod Steps
 mod Entries
 pub mod Compared

@@ -7,10 +7,10 @@ ghost use Rattle.judge_names.specs.Compared.{result_layout, equal_on, equal_in};
 use crate::same_but_names;
 use buffer::read_size;
 use de_morgan::{none_on, rewrite, without_or};
-use grammar::codes::both;
 use tape::layout::{Layout, of_tape};
 
 // Where the tape stands that an expansion has written to the front of its buffer. More entries than a tape can have are none.
+#[tactic(auto, unfolding(crate::specs::Compared::result_layout))]
 fn result_layout(res: &[u8]) -> Layout
     ensures { result ≡ result_layout res.now }
 {
@@ -23,6 +23,7 @@ fn result_layout(res: &[u8]) -> Layout
 }
 
 // Whether the supplied tape is the result but for names, where no tape has an Or.
+#[tactic(auto, unfolding(crate::specs::Compared::equal_on))]
 fn equal_on(
     reg: &[u8],
     d: Layout,
@@ -60,6 +61,7 @@ fn equal_rewritten(
 }
 
 // Whether the supplied tape is the result of an expansion but for names; `reg` and `cond` are what was expanded.
+#[tactic(auto, unfolding(crate::specs::Compared::equal_in))]
 pub fn is_equal(
     reg: &[u8],
     d: Layout,
@@ -71,7 +73,7 @@ pub fn is_equal(
 ) -> bool
     ensures { result ≡ equal_in reg.now d cond.now c supplied.now m res.now }
 {
-    if both(without_or(reg, d, cond, c), none_on(supplied, m)) {
+    if without_or(reg, d, cond, c) && none_on(supplied, m) {
         return equal_on(reg, d, cond, c, supplied, m, res);
     }
     equal_rewritten(reg, d, cond, c, supplied, m, res)

@@ -1,15 +1,15 @@
 -- Where definitions stand on two tapes, to compare them there is to say whether they agree in everything but spans.
 -- Assumes nothing.
+use Rattle.std.proofs.Common.{Some, None, Option}
 use Prim.Native.Nat.{ℕ, suc, ◌+◌, ◌-◌}
 use native.Mathlib.Omega.{arith}
 use mathlib.Core.Path.{◌≡◌, refl, sym, ap, ◌∙◌}
 use mathlib.Core.List.{List, [], ◌∷◌, ◌++◌}
 use mathlib.Core.Bool.{Bool, true, false, ◌&&◌}
-use mathlib.Core.Option.{Option, none, some}
+use mathlib.Core.Option.{Option as Maybe, none, some}
 use lib.Dec.{eqb}
 use lib.ListN.{length}
 use borrow.Author.Tests.{eq-eqb, eqb-true, eqb-false}
-use Rattle.grammar.specs.Grammar as grammar
 use Rattle.format.specs.Entry.{Text, Entry}
 use Rattle.format.specs.Ast.{MacroDef}
 use Rattle.format.specs.Flat.{flat_params, flat_body, flat_def}
@@ -32,11 +32,8 @@ use Rattle.nodes.specs.declared.Name.{Name}
 use Rattle.nodes.proofs.Entries.{is_entry, is_spelled}
 use Rattle.nodes.proofs.Placed.{heading_entries, parts_def}
 use Rattle.registry.specs.Places.{Row, key_of, end_of, get_at}
-use Rattle.registry.specs.declared.Found.{Found}
-use Rattle.registry.specs.declared.Found.TheVariants.{Definition, Nothing}
 use Rattle.registry.proofs.Standing.{Indexed, indexed_nil, indexed_cons, Ended, ended_nil, ended_cons, other_key}
 use Rattle.merge.specs.Agree.{same_head, text_at, alike_at, on_alike, same_from, agree_at, against_found, compare_at}
-use Rattle.merge.specs.declared.agree.Alike.TheVariants.{Both, Differ}
 use Rattle.merge.specs.declared.agree.Compared.{Compared}
 use Rattle.merge.specs.declared.agree.Compared.TheVariants.{New, Known, Differs}
 
@@ -66,7 +63,7 @@ module _ {s : List ℕ} {d : Layout} {t : List ℕ} {e : Layout} where
   alike_is : {p q : Place} {x y : Entry} {es fs : List Entry} → Inside s d p (x ∷ es) → Inside t e q (y ∷ fs)
       → alike_at s d p t e q
       ≡ pick (same_head x.code x.value y.code y.value)
-      (pick (eq_text x.text y.text) (Both (past (x ∷ []) p) (past (y ∷ []) q)) Differ) Differ
+      (pick (eq_text x.text y.text) (Some (past (x ∷ []) p, past (y ∷ []) q)) None) None
   unfolding alike_at
   alike_is i j = rw (is_entry i, is_entry j, text_is i, text_is j)
 
@@ -82,7 +79,7 @@ module _ {s : List ℕ} {d : Layout} {t : List ℕ} {e : Layout} where
       (eq_text x.text y.text) (same_is es fs (inside_next x es i) (inside_next y fs j) (omega arith))
     where
       go : (a b c : Bool) {r : Bool} → same_from s d t e (length es) (past (x ∷ []) p) (past (y ∷ []) q) ≡ r
-          → on_alike false (same_from s d t e (length es)) (pick (a && b) (pick c (Both (past (x ∷ []) p) (past (y ∷ []) q)) Differ) Differ)
+          → on_alike false (same_from s d t e (length es)) (pick (a && b) (pick c (Some (past (x ∷ []) p, past (y ∷ []) q)) None) None)
           ≡ ((a && (b && c)) && r)
       go true true true h = h
       go true true false h = refl
@@ -125,10 +122,10 @@ record Stood (s : List ℕ) (l : Layout) (h : Heading) (params : Place) (end : �
   stands : Inside s l params (behind d)
   ends : end ≡ params.at + length (behind d)
 
-data FoundAs (s : List ℕ) (l : Layout) (name : Text) : Found → Option MacroDef → Type 0 where
-  found_nothing : FoundAs s l name Nothing none
+data FoundAs (s : List ℕ) (l : Layout) (name : Text) : Option (Heading × Place × ℕ) → Maybe MacroDef → Type 0 where
+  found_nothing : FoundAs s l name None none
   found_whole : {h : Heading} {params : Place} {end : ℕ} {d : MacroDef} → Stood s l h params end d → d.name ≡ name
-      → FoundAs s l name (Definition h params end) (some d)
+      → FoundAs s l name (Some (h, params, end)) (some d)
 
 -- what a name finds, as `Registry::get` does
 get_whole : {s : List ℕ} {l : Layout} {rs : List Row} {ds : List MacroDef} → Indexed s l rs ds → Ended s l rs ds → (name : Text)
@@ -147,20 +144,20 @@ get_whole {s} {l} (indexed_cons {r = r} {rs = rs} {d = d} {ds = ds} i k h) (ende
   where
     go : (b : Bool) → eq_text d.name name ≡ b → {head : Heading} {params : Place} → FoundAs s l name (get_at s l rs name) (get ds name)
         → Stood s l head params (end_of l rs) d
-        → FoundAs s l name (pick b (Definition head params (end_of l rs)) (get_at s l rs name)) (elim b [ true ↦ some d | false ↦ get ds name ])
+        → FoundAs s l name (pick b (Some (head, params, end_of l rs)) (get_at s l rs name)) (elim b [ true ↦ some d | false ↦ get ds name ])
     go true q rest f = found_whole f (text_equal d.name name (from_true q))
     go false q rest f = rest
 
     by_key : (t : Bool) → eqb r.key (key_of name) ≡ t → {head : Heading} {params : Place} → FoundAs s l name (get_at s l rs name) (get ds name)
         → Stood s l head params (end_of l rs) d
-        → FoundAs s l name (pick t (pick (eq_text d.name name) (Definition head params (end_of l rs)) (get_at s l rs name)) (get_at s l rs name))
+        → FoundAs s l name (pick t (pick (eq_text d.name name) (Some (head, params, end_of l rs)) (get_at s l rs name)) (get_at s l rs name))
         (elim (eq_text d.name name) [ true ↦ some d | false ↦ get ds name ])
     by_key true q rest f = go (eq_text d.name name) refl rest f
     by_key false q rest f = rw (other_key r d.name name k q) rest
 
 -- ------------------------------------------------------------------ a definition of the second against the first
 
-abbrev pub compared_with : Option MacroDef → MacroDef → Place → Compared
+abbrev pub compared_with : Maybe MacroDef → MacroDef → Place → Compared
 compared_with none x q = New q
 compared_with (some c) x q = pick (agrees c x) (Known q) (Differs x.span)
 
@@ -190,7 +187,7 @@ module _ {s : List ℕ} {d : Layout} {t : List ℕ} {e : Layout} where
       })
       (get_whole indexed ended x.name))
     where
-      go : {name : Name} {params : Place} {f : Found} {o : Option MacroDef}
+      go : {name : Name} {params : Place} {f : Option (Heading × Place × ℕ)} {o : Maybe MacroDef}
           → Stood t e (record { span = x.span; name = name; count = length x.params }) params (past (flat_def x) p).at x
           → FoundAs s d x.name f o
           → against_found s d t e (record { span = x.span; name = name; count = length x.params }) params (past (flat_def x) p) f

@@ -25,7 +25,7 @@ module _ (s : List ℕ) (d : Layout) (t : List ℕ) (e : Layout) (bytes : List �
   pub written_answered : {none : List ℕ} {out : Writer} (before : List ℕ) (k : ℕ) → m ≡ Written out → result ≡ finished_in (area_in out bytes) before
       → answer_with r none work message ≡ ended (buffers 0 0 k) (Outcome.refused (refusal 0 0 []) 0)
       → AnswersMerging s d t e m bytes (length before) k (answer_with r result [] message)
-  unfolding MergingMatches registry_tape
+  unfolding AnswersMerging MergingMatches registry_tape
   written_answered before k p f z (Outcome.done defs c) h large short =
       let g = rw p at h in
       without_work_lem registry_tape (length before) k (Outcome.done defs c)
@@ -36,7 +36,7 @@ module _ (s : List ℕ) (d : Layout) (t : List ℕ) (e : Layout) (bytes : List �
   module _ (n k : ℕ) {f : Refused} where
     pub first_answered : m ≡ First f → AnswersRefusal s d s d f 0 (buffers n 0 k) (answer_with r result work message)
         → AnswersMerging s d t e m bytes n k (answer_with r result [] message)
-    unfolding MergingMatches ended answer
+    unfolding AnswersMerging MergingMatches ended answer
     first_answered p z (Outcome.done defs c) h large short = absurd (rw p at h)
     first_answered p z (Outcome.refused x c) h large short =
         let g = rw p at h in
@@ -44,20 +44,21 @@ module _ (s : List ℕ) (d : Layout) (t : List ℕ) (e : Layout) (bytes : List �
 
     pub second_answered : m ≡ Second f → AnswersRefusal t e t e f 0 (buffers n 0 k) (answer_with r result work message)
         → AnswersMerging s d t e m bytes n k (answer_with r result [] message)
-    unfolding MergingMatches ended answer
+    unfolding AnswersMerging MergingMatches ended answer
     second_answered p z (Outcome.done defs c) h large short = absurd (rw p at h)
     second_answered p z (Outcome.refused x c) h large short =
         let g = rw p at h in
         without_work_lem registry_tape n k (Outcome.refused x c) (z x g.1 short ∙ ap (λ (j : ℕ). ended (buffers n 0 k) (Outcome.refused x j)) g.0)
 
 -- the area is the one that was merged into
-pub ends_merge : (s : List ℕ) (d : Layout) (t : List ℕ) (e : Layout) (n k : ℕ) {m : Merging} {bytes : List ℕ} {a : Answer}
+pub ends_merge : (s : List ℕ) (d : Layout) (t : List ℕ) (e : Layout) (n k : ℕ) {m : Merging} {bytes : List ℕ} (a : Answer)
     → merging m bytes ≡ merge_in s d t e 255 (replicate 12288 0) → AnswersMerging s d t e m bytes n k a → EndsMerge s d t e n k a
-ends_merge s d t e n k h z = rw (← h) z
+unfolding EndsMerge
+ends_merge s d t e n k a h z = rw (← h) z
 
 -- the tapes are the rewritten ones
-pub ends_rewritten : (first second zeros : List ℕ) (d e : Layout) (n k : ℕ) {f g : Layout} {one other : List ℕ} {a : Answer}
+pub ends_rewritten : (first second zeros : List ℕ) (d e : Layout) (n k : ℕ) {f g : Layout} {one other : List ℕ} (a : Answer)
     → (f ≡ rewritten_layout first d) × (one ≡ rewritten_in first d zeros) → (g ≡ rewritten_layout second e) × (other ≡ rewritten_in second e zeros)
     → EndsMerge one f other g n k a
     → EndsMerge (rewritten_in first d zeros) (rewritten_layout first d) (rewritten_in second e zeros) (rewritten_layout second e) n k a
-ends_rewritten first second zeros d e n k p q z = rw (← p.0, ← p.1, ← q.0, ← q.1) z
+ends_rewritten first second zeros d e n k a p q z = rw (← p.0, ← p.1, ← q.0, ← q.1) z

@@ -7,7 +7,6 @@ use mathlib.Core.List.{List, [], ◌∷◌, ◌++◌, append-nil, append_assoc}
 use mathlib.Core.Bool.{Bool, true, false}
 use mathlib.Core.Option.{Option, none, some}
 use lib.ListN.{length, length-append}
-use Rattle.grammar.specs.Grammar as grammar
 use Rattle.format.specs.Entry.{Entry, entry, text_of}
 use Rattle.format.specs.Ast.{MacroDef}
 use Rattle.format.specs.Flat.{flat_def, flat_defs, flat_registry}

@@ -1,6 +1,6 @@
 -- The laws that several proofs of the crate cite.
-mod Steps
-mod Agreeing
-mod Joining
-mod Answering
-mod Operation
+pub mod Steps
+pub mod Agreeing
+pub mod Joining
+pub mod Answering
+pub mod Operation

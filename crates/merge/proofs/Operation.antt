@@ -1,11 +1,13 @@
 -- The merge's answer: what it came to, over two accepted tapes or their rewritings, is what the definition says.
 -- Assumes nothing.
+use Rattle.messages.specs.declared.Refused.{Refused}
+use Rattle.std.proofs.Common.{Result, Ok, Err}
 use Prim.Native.Nat.{ℕ, ◌≤◌}
 use native.Mathlib.Omega.{arith}
 use mathlib.Core.Path.{◌≡◌, refl, sym, ap, ◌∙◌}
 use mathlib.Core.List.{List, []}
 use mathlib.Core.Bool.{Bool, true, false, not, ◌&&◌}
-use mathlib.Core.Option.{Option, none, some}
+use mathlib.Core.Option.{Option as Maybe, none, some}
 use lib.Dec.{leb, leb→le, eqb, eqb→eq}
 use lib.ListN.{length, replicate, length-replicate}
 use Rattle.grammar.specs.Grammar as grammar
@@ -24,7 +26,9 @@ use Rattle.definition.specs.Answers.{Answer, answer, message_alone, without_work
 use Rattle.definition.specs.Merge.{first_differing, joined, refuse_differing, too_large_registry, merge, merge_tapes, registry_tape, merge_answer}
 use Rattle.definition.proofs.Kept.{registry_bounded}
 use Rattle.tape.specs.Pick.{pick}
+use Rattle.tape.specs.Header.{fault_number}
 use Rattle.tape.specs.Ors.{ors_in}
+use Rattle.tape.specs.declared.header.Fault.{Fault}
 use Rattle.tape.specs.declared.layout.Layout.{Layout}
 use Rattle.tape.proofs.Located.{Alone}
 use Rattle.tape.proofs.Roots.{Accepted, registry_root_lem, accepted_root}
@@ -36,15 +40,12 @@ use Rattle.messages.specs.declared.Reason.TheVariants.{WithoutMessage}
 use Rattle.walk_state.specs.Writing.{Progress}
 use Rattle.answer.specs.Matches.{ended, message_in, VerdictMatches}
 use Rattle.answer.specs.Tapes.{accept_two}
-use Rattle.answer.specs.declared.Verdict.{Verdict}
-use Rattle.answer.specs.declared.Verdict.TheVariants.{Passes, Refused as Refuse}
-use Rattle.answer.specs.declared.tapes.Accepted.TheVariants.{Both, Refused}
 use Rattle.answer.proofs.Operations.{refused_tapes, accepted_read, first_accepted, second_accepted, read_two, ends_short, ends_refused}
 use Rattle.registry.specs.Places.{index_at, build_at}
 use Rattle.registry.proofs.Standing.{indexed_registry, ended_registry}
 use Rattle.registry.proofs.Verdicts.{build_matches}
 use Rattle.merge.specs.Join.{MergingIn, after_names, merged_of, merged_in, joined_in, merge_in}
-use Rattle.merge.specs.Ends.{MergingMatches, EndsMerge}
+use Rattle.merge.specs.Ends.{MergingMatches, AnswersMerging, EndsMerge}
 use Rattle.merge.specs.declared.join.Merging.TheVariants.{Written, First}
 use Rattle.merge.proofs.Joining.{JoinsTo, joins, differs, joined_is}
 
@@ -55,14 +56,14 @@ abbrev find : List MacroDef → List MacroDef → Outcome (List MacroDef)
 find ds es = unless (build ds) (unless (build es) (merge ds es)) 0
 
 -- what is joined, from the definition that differs and whether it is too large
-abbrev walked : Option MacroDef → Bool → List MacroDef → Walk (List MacroDef)
+abbrev walked : Maybe MacroDef → Bool → List MacroDef → Walk (List MacroDef)
 walked o b defs = do
   refuse_differing o
   check_limits b 0
   pure defs
 
 module _ (s : List ℕ) (d : Layout) (t : List ℕ) (e : Layout) where
-  joined_matches : {X : Progress} {o : Option MacroDef} {defs : List MacroDef} → JoinsTo X o defs
+  joined_matches : {X : Progress} {o : Maybe MacroDef} {defs : List MacroDef} → JoinsTo X o defs
       → MergingMatches s d t e (merged_of X.walk) X.bytes (walked o (too_large_registry defs) defs 0)
   unfolding MergingMatches merged_of refuse_differing check_limits too_large_registry open_outcome message_of
   joined_matches (differs w) = rw w (refl, record { its_number = refl; its_span = refl; its_message = refl })
@@ -74,17 +75,17 @@ module _ (s : List ℕ) (d : Layout) (t : List ℕ) (e : Layout) where
       by_size over true q f = rw q (refl, h, f)
       by_size over false q f = rw q (refl, record { its_number = refl; its_span = refl; its_message = refl })
 
-  names_match : (v w : Verdict) (a b : definition.Verdict) (bytes : List ℕ) (X : MergingIn) (m : Walk (List MacroDef)) → VerdictMatches s d v a → VerdictMatches t e w b
+  names_match : (v w : Result Unit Refused) (a b : definition.Verdict) (bytes : List ℕ) (X : MergingIn) (m : Walk (List MacroDef)) → VerdictMatches s d v a → VerdictMatches t e w b
       → MergingMatches s d t e X.outcome X.bytes (m 0)
       → MergingMatches s d t e (after_names v w bytes X).outcome (after_names v w bytes X).bytes (unless a (unless b m) 0)
   unfolding MergingMatches VerdictMatches unless
-  names_match Passes Passes none none bytes X m p q h = h
-  names_match Passes Passes none (some r) bytes X m p q h = absurd q
-  names_match Passes (Refuse f) none none bytes X m p q h = absurd q
-  names_match Passes (Refuse f) none (some r) bytes X m p q h = (refl, q)
-  names_match Passes w (some r) b bytes X m p q h = absurd p
-  names_match (Refuse f) w none b bytes X m p q h = absurd p
-  names_match (Refuse f) w (some r) b bytes X m p q h = (refl, p)
+  names_match (Ok i) (Ok j) none none bytes X m p q h = h
+  names_match (Ok i) (Ok j) none (some r) bytes X m p q h = absurd q
+  names_match (Ok i) (Err f) none none bytes X m p q h = absurd q
+  names_match (Ok i) (Err f) none (some r) bytes X m p q h = (refl, q)
+  names_match (Ok i) w (some r) b bytes X m p q h = absurd p
+  names_match (Err f) w none b bytes X m p q h = absurd p
+  names_match (Err f) w (some r) b bytes X m p q h = (refl, p)
 
   merge_matches : {ds es : List MacroDef} (bytes : List ℕ) → Alone registry_root s d ds → Alone registry_root t e es → 12288 ≤ length bytes
       → MergingMatches s d t e (merge_in s d t e 255 bytes).outcome (merge_in s d t e 255 bytes).bytes (find ds es)
@@ -100,7 +101,7 @@ merge_silent : (ds es : List MacroDef) → length (message_in (merge ds es 0)) �
 unfolding merge refuse_differing check_limits open_outcome
 merge_silent ds es = go (first_differing ds es) (too_large_registry (joined ds es))
   where
-    go : (o : Option MacroDef) (b : Bool) → length (message_in (walked o b (joined ds es) 0)) ≡ 0
+    go : (o : Maybe MacroDef) (b : Bool) → length (message_in (walked o b (joined ds es) 0)) ≡ 0
     go none true = refl
     go none false = refl
     go (some x) b = refl
@@ -138,16 +139,16 @@ module _ (r m : ℕ) (first second : List ℕ) where
   short h k = ends_short registry_tape (without_work r m) (merge_tapes first second) h k
 
   module _ (p : Bytes first) (q : Bytes second) (enough : long ≡ true) where
-    pub refused : {n : ℕ} {a : Answer} → accept_two first grammar.definitions second grammar.definitions ≡ Refused n
-        → a ≡ ended (without_work r m) (number_alone n) → a ≡ merge_answer r m first second
+    pub refused : {f : Fault} {a : Answer} → accept_two first grammar.definitions second grammar.definitions ≡ Err f
+        → a ≡ ended (without_work r m) (number_alone (fault_number f)) → a ≡ merge_answer r m first second
     unfolding merge_answer result_answer merge_tapes
-    refused {n} h k =
-        ends_refused registry_tape (without_work r m) (merge_tapes first second) n enough
+    refused {f} h k =
+        ends_refused registry_tape (without_work r m) (merge_tapes first second) (fault_number f) enough
         (read_two rewrites_registry rewrites_registry lawful_registry lawful_registry first second p q find
         ∙ refused_tapes registry_root registry_root registry_root_lem registry_root_lem first second (λ x y. find (rewritten registry_root x) (rewritten registry_root y)) h)
         k
 
-    module _ {d e : Layout} (h : accept_two first grammar.definitions second grammar.definitions ≡ Both d e) where
+    module _ {d e : Layout} (h : accept_two first grammar.definitions second grammar.definitions ≡ Ok (d, e)) where
       one : (x : List MacroDef) × Accepted registry_root first d x
       one = accepted_root registry_root_lem first p d (first_accepted first second grammar.definitions grammar.definitions h)
 
@@ -174,7 +175,7 @@ module _ (r m : ℕ) (first second : List ℕ) where
 
       found : {s t : List ℕ} {d' e' : Layout} {a : Answer} → Alone registry_root s d' ds → Alone registry_root t e' es → EndsMerge s d' t e' r m a
           → a ≡ merge_answer r m first second
-      unfolding merge_answer result_answer
+      unfolding EndsMerge AnswersMerging merge_answer result_answer
       found i j k =
           let z = from_true enough in
           let result : 12296 ≤ r = leb→le 12296 r (and_left (leb 12296 r) _ z) in

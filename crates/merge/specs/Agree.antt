@@ -1,6 +1,6 @@
 -- Two definitions by the places where they stand on two tapes: whether their entries agree in everything but spans.
 -- Assumes nothing.
-use Rattle.std.specs.Prelude.{ℕ, zero, suc, ◌-◌, List, Bool, true, false, ◌&&◌, eqb}
+use Rattle.std.specs.Prelude.{ℕ, zero, suc, ◌-◌, List, Bool, true, false, ◌&&◌, eqb, Option, Some, None}
 use Rattle.grammar.specs.Grammar as grammar
 use Rattle.format.specs.Entry.{Text}
 use Rattle.format.specs.Tape.{is_text, text_width}
@@ -13,10 +13,6 @@ use Rattle.registry.specs.Places.{Row, get_at}
 use Rattle.tape.specs.declared.layout.Layout.{Layout}
 use Rattle.tape.specs.declared.layout.Place.{Place}
 use Rattle.nodes.specs.declared.Heading.{Heading}
-use Rattle.registry.specs.declared.Found.{Found}
-use Rattle.registry.specs.declared.Found.TheVariants.{Definition, Nothing}
-use Rattle.merge.specs.declared.agree.Alike.{Alike}
-use Rattle.merge.specs.declared.agree.Alike.TheVariants.{Both, Differ}
 use Rattle.merge.specs.declared.agree.Compared.{Compared}
 use Rattle.merge.specs.declared.agree.Compared.TheVariants.{New, Known, Differs}
 
@@ -31,21 +27,21 @@ unfoldable pub text_at : List ℕ → Layout → Place → (code value : ℕ) �
 text_at s l p code value = name_at s l (named p (text_width (is_text code) value))
 
 -- two entries, with the places behind them
-unfoldable pub alike_at : List ℕ → Layout → Place → List ℕ → Layout → Place → Alike
+unfoldable pub alike_at : List ℕ → Layout → Place → List ℕ → Layout → Place → Option (Place × Place)
 alike_at s d p t e q =
-    on_entry Differ
+    on_entry None
     (λ code value next.
-    on_entry Differ
+    on_entry None
     (λ other count behind.
-    pick (same_head code value other count) (pick (eq_text (text_at s d p code value) (text_at t e q other count)) (Both next behind) Differ) Differ)
+    pick (same_head code value other count) (pick (eq_text (text_at s d p code value) (text_at t e q other count)) (Some (next, behind)) None) None)
     (entry_at t e q))
     (entry_at s d p)
 
 -- ------------------------------------------------------------------ a run of entries, and a definition
 
-abbrev pub on_alike : {A : Type 0} → A → (Place → Place → A) → Alike → A
-on_alike none f (Both next behind) = f next behind
-on_alike none f Differ = none
+abbrev pub on_alike : {A : Type 0} → A → (Place → Place → A) → Option (Place × Place) → A
+on_alike none f (Some (next, behind)) = f next behind
+on_alike none f None = none
 
 unfoldable pub same_from : List ℕ → Layout → List ℕ → Layout → ℕ → Place → Place → Bool
 same_from s d t e zero p q = true
@@ -58,9 +54,9 @@ agree_at s d g from end t e h other to =
     (pick (eqb (end - from.at) (to - other.at)) (same_from s d t e (end - from.at) from other) false) false
 
 -- what was found on the first tape, against the definition of the second whose head is h, and which ends at `next`
-abbrev pub against_found : List ℕ → Layout → List ℕ → Layout → Heading → Place → Place → Found → Compared
-against_found s d t e h params next Nothing = New next
-against_found s d t e h params next (Definition g from end) =
+abbrev pub against_found : List ℕ → Layout → List ℕ → Layout → Heading → Place → Place → Option (Heading × Place × ℕ) → Compared
+against_found s d t e h params next None = New next
+against_found s d t e h params next (Some (g, from, end)) =
     pick (agree_at s d g from end t e h params next.at) (Known next) (Differs h.span)
 
 unfoldable pub compare_at : List ℕ → Layout → List Row → List ℕ → Layout → Place → Compared

@@ -25,12 +25,12 @@ MergingMatches s d t e (Second f) bytes (Outcome.done defs charged) = ⊥
 MergingMatches s d t e (Second f) bytes (Outcome.refused r charged) = (0 ≡ charged) × RefusalMatches t e t e f r
 
 -- a is the answer of every outcome that matches, in buffers that have room for a tape and for its message
-abbrev pub AnswersMerging : List ℕ → Layout → List ℕ → Layout → Merging → List ℕ → (result message : ℕ) → Answer → Type 0
+unfoldable pub AnswersMerging : List ℕ → Layout → List ℕ → Layout → Merging → List ℕ → (result message : ℕ) → Answer → Type 0
 AnswersMerging s d t e m bytes result message a =
     (o : Outcome (List MacroDef)) → MergingMatches s d t e m bytes o → 12296 ≤ result → length (message_in o) ≤ message
     → a ≡ answer registry_tape (without_work result message) o
 
 -- a is the answer of the merge of two tapes
-abbrev pub EndsMerge : List ℕ → Layout → List ℕ → Layout → (result message : ℕ) → Answer → Type 0
+unfoldable pub EndsMerge : List ℕ → Layout → List ℕ → Layout → (result message : ℕ) → Answer → Type 0
 EndsMerge s d t e result message a =
     let X : MergingIn = merge_in s d t e 255 (replicate 12288 0) in AnswersMerging s d t e X.outcome X.bytes result message a

@@ -1,6 +1,7 @@
 -- The joined registry in a work area: what each definition of the second tape makes of it, and what a merge comes to.
 -- Assumes nothing.
-use Rattle.std.specs.Prelude.{ℕ, zero, suc, List}
+use Rattle.messages.specs.declared.Refused.{Refused}
+use Rattle.std.specs.Prelude.{ℕ, zero, suc, List, Result, Ok, Err}
 use Rattle.grammar.specs.Grammar as grammar
 use Rattle.tape.specs.Pick.{pick}
 use Rattle.tape.specs.Scan.{skip_at}
@@ -15,8 +16,6 @@ use Rattle.walk_state.specs.Writing.{Progress, progress, state, going, after, wi
 use Rattle.walk_state.specs.declared.writing.State.{State}
 use Rattle.walk_state.specs.declared.writing.Walk.{Walk}
 use Rattle.walk_state.specs.declared.writing.Walk.TheVariants as walk
-use Rattle.answer.specs.declared.Verdict.{Verdict}
-use Rattle.answer.specs.declared.Verdict.TheVariants.{Passes, Refused}
 use Rattle.subst_state.specs.Output.{copy_in}
 use Rattle.registry.specs.Places.{Row, origin, index_at, build_at}
 use Rattle.merge.specs.Agree.{compare_at}
@@ -77,10 +76,10 @@ abbrev pub merging : Merging → List ℕ → MergingIn
 merging m bytes = record { outcome = m; bytes = bytes }
 
 -- the first's names, then the second's, and then what is joined
-abbrev pub after_names : Verdict → Verdict → List ℕ → MergingIn → MergingIn
-after_names (Refused f) second bytes X = merging (merge.First f) bytes
-after_names Passes (Refused f) bytes X = merging (merge.Second f) bytes
-after_names Passes Passes bytes X = X
+abbrev pub after_names : Result Unit Refused → Result Unit Refused → List ℕ → MergingIn → MergingIn
+after_names (Err f) second bytes X = merging (merge.First f) bytes
+after_names (Ok u) (Err f) bytes X = merging (merge.Second f) bytes
+after_names (Ok u) (Ok v) bytes X = X
 
 abbrev pub merged_in : Progress → MergingIn
 merged_in X = merging (merged_of X.walk) X.bytes

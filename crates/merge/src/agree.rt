@@ -4,20 +4,14 @@ ghost use Rattle.definition.specs.Merge.{is_spanned, unless_span};
 ghost use Rattle.registry.specs.Places.{rows_in};
 ghost use Rattle.merge.specs.Agree.{same_head, text_at, alike_at, same_from, agree_at, compare_at};
 
-use grammar::codes::{DEFINITION, both, either};
+use grammar::code;
+use grammar::codes::DEFINITION;
 use grammar::kind::text_width;
-use nodes::{EntryRead, Heading, HeadingRead, Name, entry, name_at, read_heading, same_text};
-use registry::{Found, get};
+use nodes::{Heading, Name, entry, name_at, read_heading};
+use registry::get;
 use subst_state::run::distance;
 use tape::layout::{Layout, Place};
-use tape::scan::{Skipped, skip};
-
-// The places behind two entries that agree.
-#[derive(Clone, Copy)]
-pub enum Alike {
-    Both(Place, Place),
-    Differ,
-}
+use tape::scan::skip;
 
 // What a definition of the second registry is to the first: a new one, or one that agrees with the first's, each with the place behind
 // it; or one that differs, with its span.
@@ -29,15 +23,17 @@ pub enum Compared {
 }
 
 // Whether the value of an entry is a span.
+#[tactic(auto, unfolding(definition::specs::Merge::is_spanned, format::specs::Macro::is_code))]
 fn is_spanned(code: u8) -> bool
     ensures { result ≡ is_spanned code }
 {
-    let condition = both(1 <= code, code <= 13);
-    let aggregate = both(34 <= code, code <= 36);
-    let single = either(code == 42, either(code == 54, code == 60));
-    either(either(condition, aggregate), single)
+    matches!(
+        code,
+        code::AND..=code::REFINE | code::SUM..=code::AGG_CALL | code::SPAN | code::CALLED | code::DEFINITION
+    )
 }
 
+#[tactic(auto, unfolding(definition::specs::Merge::unless_span))]
 fn unless_span(code: u8, value: u64) -> u64
     ensures { result ≡ unless_span (is_spanned code) value }
 {
@@ -45,16 +41,15 @@ fn unless_span(code: u8, value: u64) -> u64
 }
 
 // Whether two entries have one code and, unless it is a span, one value.
+#[tactic(auto, unfolding(crate::specs::Agree::same_head))]
 fn same_head(code: u8, value: u64, other: u8, count: u64) -> bool
     ensures { result ≡ same_head code value other count }
 {
-    if code != other {
-        return false;
-    }
-    unless_span(code, value) == unless_span(other, count)
+    code == other && unless_span(code, value) == unless_span(other, count)
 }
 
 // The text of an entry that stands at a place.
+#[tactic(auto, unfolding(crate::specs::Agree::text_at))]
 fn text_at(s: &[u8], l: Layout, p: Place, code: u8, value: u64) -> &[u8]
     ensures { result.now ≡ text_at s.now l p code value }
 {
@@ -67,28 +62,26 @@ fn text_at(s: &[u8], l: Layout, p: Place, code: u8, value: u64) -> &[u8]
 }
 
 // The entries at two places of two tapes.
-fn compare_entries(s: &[u8], d: Layout, p: Place, t: &[u8], e: Layout, q: Place) -> Alike
+#[tactic(auto, using(nodes::proofs::Texts::equal_texts), unfolding(crate::specs::Agree::alike_at))]
+fn compare_entries(
+    s: &[u8],
+    d: Layout,
+    p: Place,
+    t: &[u8],
+    e: Layout,
+    q: Place,
+) -> Option<(Place, Place)>
     ensures { result ≡ alike_at s.now d p t.now e q }
 {
-    let EntryRead::Entry(code, value, next) = entry(s, d, p) else {
-        return Alike::Differ;
-    };
-    let EntryRead::Entry(other, count, behind) = entry(t, e, q) else {
-        return Alike::Differ;
-    };
-    if !same_head(code, value, other, count) {
-        return Alike::Differ;
-    }
-    if same_text(
-        text_at(s, d, p, code, value),
-        text_at(t, e, q, other, count),
-    ) {
-        return Alike::Both(next, behind);
-    }
-    Alike::Differ
+    let (code, value, next) = entry(s, d, p)?;
+    let (other, count, behind) = entry(t, e, q)?;
+    let alike = same_head(code, value, other, count)
+        && text_at(s, d, p, code, value) == text_at(t, e, q, other, count);
+    if alike { Some((next, behind)) } else { None }
 }
 
 // Whether the `n` entries from one place on agree with those from the other on.
+#[tactic(auto, using(crate::proofs::Steps::same_next, crate::proofs::Steps::same_differ, crate::proofs::Steps::same_done))]
 fn same_entries(
     s: &[u8],
     d: Layout,
@@ -102,20 +95,19 @@ fn same_entries(
 {
     let mut p = from;
     let mut q = other;
-    let mut left = n;
-    while 0 < left {
-        let Alike::Both(next, behind) = compare_entries(s, d, p, t, e, q) else {
+    for _ in 0..n {
+        let Some((next, behind)) = compare_entries(s, d, p, t, e, q) else {
             return false;
         };
         p = next;
         q = behind;
-        left = left - 1;
     }
     true
 }
 
 // Whether two definitions of one name agree, whose heads were read: what stands behind the heads up to `end` on the first tape, and up
 // to `to` on the second. The heads themselves are a span, the name, and the number of parameters.
+#[tactic(auto, unfolding(crate::specs::Agree::agree_at))]
 fn agree(
     s: &[u8],
     d: Layout,
@@ -130,18 +122,13 @@ fn agree(
 ) -> bool
     ensures { result ≡ agree_at s.now d g from end t.now e h other to }
 {
-    if g.count != h.count {
-        return false;
-    }
     let n = distance(from.at, end);
-    if n != distance(other.at, to) {
-        return false;
-    }
-    same_entries(s, d, from, t, e, other, n)
+    g.count == h.count && n == distance(other.at, to) && same_entries(s, d, from, t, e, other, n)
 }
 
 // The definition at a place of the second registry, against those of the first, whose rows stand in a table. An accepted tape has a
 // definition there.
+#[tactic(auto, unfolding(crate::specs::Agree::compare_at))]
 pub fn compare(
     s: &[u8],
     d: Layout,
@@ -153,15 +140,15 @@ pub fn compare(
 ) -> Compared
     ensures { result ≡ compare_at s.now d (rows_in places.now count) t.now e p }
 {
-    let HeadingRead::Node(h, params) = read_heading(t, e, p, 60) else {
+    let Ok((h, params)) = read_heading(t, e, p, code::DEFINITION) else {
         return Compared::Differs(0);
     };
-    let Skipped::At(next) = skip(t, e, p, DEFINITION) else {
+    let Some(next) = skip(t, e, p, DEFINITION) else {
         return Compared::Differs(0);
     };
     match get(s, d, places, count, name_at(t, e, h.name)) {
-        Found::Nothing => Compared::New(next),
-        Found::Definition(g, from, end) => {
+        None => Compared::New(next),
+        Some((g, from, end)) => {
             if agree(s, d, g, from, end, t, e, h, params, next.at) {
                 Compared::Known(next)
             } else {

@@ -9,7 +9,7 @@ ghost use Rattle.de_morgan.specs.Rewritten.{rewritten_in, rewritten_layout};
 ghost use Rattle.merge.specs.Ends.{AnswersMerging, EndsMerge};
 
 use crate::join::{Merging, merge_named};
-use answer::tapes::{Accepted, accept_two};
+use answer::tapes::accept_two;
 use answer::{Answer, number_alone, refuse};
 use area::finish;
 use de_morgan::{rewrite, without_or};
@@ -23,10 +23,7 @@ mod join;
 fn long_enough(res: usize, message: usize) -> bool
     ensures { result ≡ (leb 12296 res && leb 2048 message) }
 {
-    if res < 12296 {
-        return false;
-    }
-    2048 <= message
+    12296 <= res && 2048 <= message
 }
 
 // The answer of what a merge came to, whose registry stands in an area.
@@ -53,6 +50,7 @@ fn answer_merging(
 }
 
 // The rows of 255 definitions, as many as a registry can have, and the area of the joined registry.
+#[tactic(auto, using(crate::proofs::Answering::ends_merge))]
 fn merge_in(
     first: &[u8],
     d: Layout,
@@ -70,6 +68,7 @@ fn merge_in(
 }
 
 // The same over the rewritten tapes, for which there is room here: most tapes have no Or.
+#[tactic(auto, using(crate::proofs::Answering::ends_rewritten))]
 fn merge_rewritten(
     first: &[u8],
     d: Layout,
@@ -88,6 +87,7 @@ fn merge_rewritten(
 }
 
 // The operation: the answer and every byte of the two buffers are what the definition says, for every input and every buffer.
+#[tactic(auto, using(format::proofs::Accepted::bytes_all, crate::proofs::Operation::given))]
 pub fn merge(first: &[u8], second: &[u8], res: &mut [u8], message: &mut [u8]) -> Answer
     ensures { answer_with result res.new [] message.new ≡ merge_answer (length res.old) (length message.old) first.now second.now }
 {
@@ -95,13 +95,10 @@ pub fn merge(first: &[u8], second: &[u8], res: &mut [u8], message: &mut [u8]) ->
         return number_alone(1, 0, res, &mut [], message);
     }
     match accept_two(first, DEFINITIONS, second, DEFINITIONS) {
-        Accepted::Both(d, e) => {
-            if without_or(first, d, second, e) {
-                merge_in(first, d, second, e, res, message)
-            } else {
-                merge_rewritten(first, d, second, e, res, message)
-            }
+        Ok((d, e)) if without_or(first, d, second, e) => {
+            merge_in(first, d, second, e, res, message)
         }
-        Accepted::Refused(n) => number_alone(n, 0, res, &mut [], message),
+        Ok((d, e)) => merge_rewritten(first, d, second, e, res, message),
+        Err(fault) => number_alone(fault.number(), 0, res, &mut [], message),
     }
 }

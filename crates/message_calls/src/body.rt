@@ -1,4 +1,6 @@
 // Numbers 10 and 11, of a registry's definitions, and 20, 21 and 22, of a body.
+#![tactic(auto, unfolding(definition::specs::Text::open_text, definition::specs::Messages::open_messages, message_parts::specs::Write::open_pieces))]
+
 ghost use Rattle.definition.specs.Outcome.{span_start};
 ghost use Rattle.definition.specs.Messages.{reserved_name, duplicate_definition, undeclared_parameter, plain_identifier, macro_in_macro};
 ghost use Rattle.nodes.specs.Node.{name_at};
@@ -6,7 +8,7 @@ ghost use Rattle.buffer.specs.Buffer.{Written};
 ghost use Rattle.message_parts.specs.Names.{names_at};
 
 use buffer::{write_at, write_number};
-use message_parts::names::{Least, params_above};
+use message_parts::names::params_above;
 use message_parts::{around, named};
 use nodes::Name;
 use tape::layout::{Layout, Place};
@@ -57,7 +59,7 @@ pub fn undeclared_parameter(
         name,
         b"` does not name a declared parameter (declared: ",
     );
-    params_above(message, a, s, l, params, count, Least::Nothing)
+    params_above(message, a, s, l, params, count, None)
 }
 
 pub fn plain_identifier(message: &mut [u8], s: &[u8], l: Layout, name: Name) -> usize

@@ -1,11 +1,13 @@
 // Numbers 30 to 35, of a call.
+#![tactic(auto, unfolding(definition::specs::Text::open_text, definition::specs::Messages::open_messages, message_parts::specs::Write::open_pieces))]
+
 ghost use Rattle.std.specs.Prelude.{◌%◌, ◌^◌};
 ghost use Rattle.definition.specs.Messages.{unknown_macro, cedar_in_condition, cedar_in_value, value_as_condition, condition_as_value, argument_count, budget_exceeded};
 ghost use Rattle.nodes.specs.Node.{name_at};
 ghost use Rattle.buffer.specs.Buffer.{Written};
 
 use buffer::{write_at, write_number};
-use message_parts::{around, named};
+use message_parts::{around, around_two};
 use nodes::Name;
 use tape::layout::Layout;
 
@@ -51,19 +53,13 @@ pub fn cedar_in_value(message: &mut [u8], s: &[u8], l: Layout, name: Name) -> us
 pub fn value_as_condition(message: &mut [u8], s: &[u8], l: Layout, name: Name) -> usize
     ensures { Written message.old message.new result (value_as_condition (name_at s.now l name)) }
 {
-    let a = around(
+    around_two(
         message,
         b"macro `",
         s,
         l,
         name,
         b"` is a value macro (an aggregation or arithmetic over aggregations); it must appear as a comparison operand (e.g. `",
-    );
-    named(
-        message,
-        a,
-        s,
-        l,
         name,
         b"(\xE2\x80\xA6) <= n`), not as a standalone condition",
     )

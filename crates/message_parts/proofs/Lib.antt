@@ -1,7 +1,7 @@
 -- The laws that the functions' proofs cite, and those that the crates above cite.
 pub mod Writing
 pub mod Order
-mod Compare
+pub mod Less
 mod Sorted
 pub mod Listing
-mod Params
+pub mod Params

@@ -19,10 +19,6 @@ pub piece : {t : Text} {m m' : Message} → m' ≡ write_in t m → Writes (t �
 unfolding flatten
 piece {t} e = record { all = rw append-nil e }
 
--- the same, where the piece is known by another name
-pub piece_of : {t u : Text} {m m' : Message} → t ≡ u → m' ≡ write_in t m → Writes (u ∷ []) m m'
-piece_of {u} {m} e w = piece (w ∙ ap (λ (x : Text). write_in x m) e)
-
 infixr 20 ◌then◌
 pub ◌then◌ : {ts us : List Text} {m m₁ m₂ : Message} → Writes ts m m₁ → Writes us m₁ m₂ → Writes (ts ++ us) m m₂
 ◌then◌ {ts} {us} {m} p q =
@@ -30,6 +26,21 @@ pub ◌then◌ : {ts us : List Text} {m m₁ m₂ : Message} → Writes ts m m�
       all = q.all ∙ ap (write_in (flatten us)) p.all ∙ write_append (flatten ts) (flatten us) m
           ∙ ap (λ (t : Text). write_in t m) (sym (flatten_append ts us));
     }
+
+pub two_pieces : {t u : Text} {m m₁ m₂ : Message} → m₁ ≡ write_in t m → m₂ ≡ write_in u m₁ → Writes (t ∷ u ∷ []) m m₂
+two_pieces a b = piece a then piece b
+
+-- a piece, and those behind it
+pub behind : {t : Text} {ts : List Text} {m m₁ m₂ : Message} → m₁ ≡ write_in t m → m₂ ≡ write_in (flatten ts) m₁ → Writes (t ∷ ts) m m₂
+behind {ts} a w = piece a then record { all = w }
+
+-- two names with what stands about them
+pub joined : {t u v w x : Text} {m m₁ m₂ : Message} → m₁ ≡ write_in (flatten (t ∷ u ∷ v ∷ [])) m → m₂ ≡ write_in (flatten (w ∷ x ∷ [])) m₁
+    → Writes (t ∷ u ∷ v ∷ w ∷ x ∷ []) m m₂
+joined {t} {u} {v} {w} {x} {m} {m₁} {m₂} a b =
+    let p : Writes (t ∷ u ∷ v ∷ []) m m₁ = record { all = a } in
+    let q : Writes (w ∷ x ∷ []) m₁ m₂ = record { all = b } in
+    p then q
 
 -- what is written does not depend on where it is cut
 pub recut : {ts us : List Text} {m m' : Message} → Writes ts m m' → flatten ts ≡ flatten us → Writes us m m'

@@ -13,6 +13,7 @@ use tape::layout::Layout;
 pub mod names;
 
 // A name and what stands behind it, where the message ends at `at`.
+#[tactic(auto, using(crate::proofs::Writing::two_pieces))]
 pub fn named(message: &mut [u8], at: usize, s: &[u8], l: Layout, name: Name, after: &[u8]) -> usize
     ensures { Writes (name_at s.now l name ∷ after.now ∷ []) (message_in message.old at) (message_in message.new result) }
 {
@@ -21,6 +22,7 @@ pub fn named(message: &mut [u8], at: usize, s: &[u8], l: Layout, name: Name, aft
 }
 
 // The front of a message: what stands before a name, the name, and what stands behind it.
+#[tactic(auto, using(crate::proofs::Writing::behind))]
 pub fn around(
     message: &mut [u8],
     before: &[u8],
@@ -33,4 +35,22 @@ pub fn around(
 {
     let a = write_at(message, 0, before);
     named(message, a, s, l, name, after)
+}
+
+// The same with two names, which may be one name twice, and what stands between them.
+#[tactic(auto, using(crate::proofs::Writing::joined))]
+pub fn around_two(
+    message: &mut [u8],
+    before: &[u8],
+    s: &[u8],
+    l: Layout,
+    first: Name,
+    between: &[u8],
+    second: Name,
+    after: &[u8],
+) -> usize
+    ensures { Writes (before.now ∷ name_at s.now l first ∷ between.now ∷ name_at s.now l second ∷ after.now ∷ []) (message_in message.old 0) (message_in message.new result) }
+{
+    let a = around(message, before, s, l, first, between);
+    named(message, a, s, l, second, after)
 }

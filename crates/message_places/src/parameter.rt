@@ -1,4 +1,6 @@
 // Numbers 41 to 46, of a parameter in a body, and 47.
+#![tactic(auto, unfolding(definition::specs::Text::open_text, definition::specs::Messages::open_messages, message_parts::specs::Write::open_pieces))]
+
 ghost use Rattle.std.specs.Prelude.{◌≡◌, [], ◌∷◌};
 ghost use Rattle.definition.specs.Text.{utf8};
 ghost use Rattle.definition.specs.Messages.{unbound_parameter, not_a_condition, binder_as_condition, not_an_interval, not_a_term, not_an_identifier, condition_shape, not_a_predicate};
@@ -8,22 +10,24 @@ ghost use Rattle.message_parts.specs.Write.{Writes};
 ghost use Rattle.message_places.specs.Words.{of_code};
 
 use buffer::write_at;
-use message_parts::{around, named};
+use grammar::code;
+use message_parts::{around, around_two};
 use nodes::Name;
 use tape::layout::Layout;
 
 pub fn unbound_parameter(message: &mut [u8], s: &[u8], l: Layout, owner: Name, name: Name) -> usize
     ensures { Written message.old message.new result (unbound_parameter (name_at s.now l owner) (name_at s.now l name)) }
 {
-    let a = around(
+    around_two(
         message,
         b"unbound macro parameter `?",
         s,
         l,
         name,
         b"` in body of `",
-    );
-    named(message, a, s, l, owner, b"`")
+        owner,
+        b"`",
+    )
 }
 
 // The macro's name and the parameter's, and how it is used.
@@ -37,8 +41,16 @@ fn parameter_use(
 ) -> usize
     ensures { Writes (utf8 "macro `" ∷ name_at s.now l owner ∷ utf8 "` parameter `?" ∷ name_at s.now l name ∷ says.now ∷ []) (message_in message.old 0) (message_in message.new result) }
 {
-    let a = around(message, b"macro `", s, l, owner, b"` parameter `?");
-    named(message, a, s, l, name, says)
+    around_two(
+        message,
+        b"macro `",
+        s,
+        l,
+        owner,
+        b"` parameter `?",
+        name,
+        says,
+    )
 }
 
 pub fn not_a_condition(message: &mut [u8], s: &[u8], l: Layout, owner: Name, name: Name) -> usize
@@ -117,22 +129,23 @@ pub fn not_a_predicate(message: &mut [u8], code: u8) -> usize
     condition_shape(message, a, code)
 }
 
-fn condition_shape(message: &mut [u8], at: usize, code: u8) -> usize
-    ensures { message_in message.new result ≡ write_in (condition_shape (of_code code)) (message_in message.old at) }
+#[tactic(auto, unfolding(definition::specs::Text::open_text, definition::specs::Messages::open_messages, crate::specs::Words::of_code))]
+fn condition_shape(message: &mut [u8], at: usize, shape: u8) -> usize
+    ensures { message_in message.new result ≡ write_in (condition_shape (of_code shape)) (message_in message.old at) }
 {
-    match code {
-        1 => write_at(message, at, b"a conjunction (`&&`)"),
-        2 => write_at(message, at, b"a disjunction (internal)"),
-        3 => write_at(message, at, b"a negation (`!`)"),
-        4 => write_at(message, at, b"a `formerly` operator"),
-        5 => write_at(message, at, b"a `previous` operator"),
-        6 => write_at(message, at, b"a `since` operator"),
-        7 => write_at(message, at, b"a predicate"),
-        8 => write_at(message, at, b"a comparison"),
-        9 => write_at(message, at, b"an `exists` binder"),
-        10 => write_at(message, at, b"a `tp(\xE2\x80\xA6)`"),
-        11 => write_at(message, at, b"an unexpanded macro call"),
-        12 => write_at(message, at, b"an unresolved macro parameter"),
+    match shape {
+        code::AND => write_at(message, at, b"a conjunction (`&&`)"),
+        code::OR => write_at(message, at, b"a disjunction (internal)"),
+        code::NOT => write_at(message, at, b"a negation (`!`)"),
+        code::FORMERLY => write_at(message, at, b"a `formerly` operator"),
+        code::PREVIOUS => write_at(message, at, b"a `previous` operator"),
+        code::SINCE => write_at(message, at, b"a `since` operator"),
+        code::PREDICATE => write_at(message, at, b"a predicate"),
+        code::COMPARISON => write_at(message, at, b"a comparison"),
+        code::EXISTS => write_at(message, at, b"an `exists` binder"),
+        code::TP => write_at(message, at, b"a `tp(\xE2\x80\xA6)`"),
+        code::CALL => write_at(message, at, b"an unexpanded macro call"),
+        code::SIGIL_REF => write_at(message, at, b"an unresolved macro parameter"),
         _ => write_at(message, at, b"a refinement"),
     }
 }

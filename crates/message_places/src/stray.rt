@@ -1,4 +1,6 @@
 // Numbers 36 to 40, of a stray sigil.
+#![tactic(auto, unfolding(definition::specs::Text::open_text, definition::specs::Messages::open_messages, message_parts::specs::Write::open_pieces, crate::specs::Words::stray_pieces))]
+
 ghost use Rattle.definition.specs.Messages.{stray_condition, stray_within, stray_slot, stray_field, stray_operand};
 ghost use Rattle.nodes.specs.Node.{name_at};
 ghost use Rattle.buffer.specs.Buffer.{message_in, Written};

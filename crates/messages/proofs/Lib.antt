@@ -1,2 +1,2 @@
 -- The laws that the functions' proofs cite.
-mod Filling
+pub mod Filling

@@ -62,9 +62,14 @@ use Rattle.messages.specs.declared.Reason.TheVariants.{
   NotAPredicate,
 }
 use Rattle.messages.specs.declared.Refused.{Refused}
+use Rattle.nodes.specs.declared.Refusal.{Refusal}
 
 abbrev pub refused_at : ℕ → Reason → Refused
 refused_at span reason = record { span = span_of span; reason = reason }
+
+-- what does not stand where it is asked for
+abbrev pub without_message : Refusal → Refused
+without_message f = record { span = f.span; reason = WithoutMessage f.number }
 
 abbrev pub number_of : Reason → ℕ
 number_of (WithoutMessage n) = n

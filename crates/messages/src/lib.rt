@@ -21,11 +21,11 @@ use message_places::parameter::{
 use message_places::stray::{
     stray_condition, stray_field, stray_operand, stray_slot, stray_within,
 };
-use nodes::{Name, Sigil, Span, span_of};
+use nodes::{Name, Refusal, Sigil, Span, span_of};
 use tape::layout::{Layout, Place};
 
 // Why an input is refused. A name is one of the definition's tape (a registry's too), or of the call's (a condition's too).
-#[derive(Clone, Copy)]
+#[derive(Clone, Copy, Debug, PartialEq, Eq)]
 pub enum Reason {
     // 1, 2, 3 and 48 say nothing: the number
     WithoutMessage(u32),
@@ -65,10 +65,33 @@ pub enum Reason {
 }
 
 // A refusal: its span, and the reason, which says its number and its message.
-#[derive(Clone, Copy)]
+#[derive(Clone, Copy, Debug, PartialEq, Eq)]
 pub struct Refused {
     pub span: Span,
     pub reason: Reason,
+}
+
+impl Refused {
+    // No nesting is left, which no accepted tape shows.
+    pub const TOO_DEEP: Refused = Refused {
+        span: Span { start: 0, end: 0 },
+        reason: Reason::WithoutMessage(3),
+    };
+}
+
+// What does not stand where it is asked for has no message.
+impl From<Refusal> for Refused {
+    ghost use Rattle.std.specs.Prelude.{◌≡◌};
+    ghost use Rattle.messages.specs.Reason.{without_message};
+
+    ghost from_gives = { λ f r. r ≡ without_message f };
+
+    fn from(f: Refusal) -> Refused {
+        Refused {
+            span: f.span,
+            reason: Reason::WithoutMessage(f.number),
+        }
+    }
 }
 
 pub fn refuse(span: u64, reason: Reason) -> Refused
@@ -114,6 +137,7 @@ pub fn number(reason: Reason) -> u32
 }
 
 // Writes the message of a refusal and zeros behind it, as far as the buffer reaches, and answers the message's length.
+#[tactic(auto, using(crate::proofs::Filling::fills))]
 pub fn write(
     definition: &[u8],
     d: Layout,
@@ -130,6 +154,7 @@ pub fn write(
 }
 
 // The message alone: s is the definition's tape, laid out as d, and t the call's, laid out as c.
+#[tactic(auto, using(message_parts::proofs::Writing::write_nothing), unfolding(crate::specs::Reason::message_of))]
 fn said(s: &[u8], d: Layout, t: &[u8], c: Layout, reason: Reason, m: &mut [u8]) -> usize
     ensures { Written m.old m.new result (message_of s.now d t.now c reason) }
 {

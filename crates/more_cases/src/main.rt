@@ -2,7 +2,6 @@
 // charged for each, and for the first whether the result is the tape of `P{f: 2}` with zeros behind it.
 #![tactic(auto)]
 
-use nodes::same_text;
 use std::io;
 use tape::part::part_of;
 
@@ -35,7 +34,7 @@ fn compare<'a>(rt: &impl Print, registry: &'a [u8], condition: &'a [u8]) -> io::
 fn say_whether(rt: &impl Print, res: &[u8]) -> io::Result<()> {
     let mut wanted = [0u8; 12296];
     samples::condition(16, &mut wanted);
-    if same_text(res, &wanted) {
+    if res == wanted.as_slice() {
         println!(rt; "P{{f: 2}}")
     } else {
         println!(rt; "another result")

@@ -1,2 +1,2 @@
 -- The law that the proofs of the crate cite.
-mod WordsWith
+pub mod WordsWith

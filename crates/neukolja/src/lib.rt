@@ -52,6 +52,7 @@ fn write_seven(r: Previewed, words: &mut [u64; 7])
     ];
 }
 
+#[tactic(auto, using(crate::proofs::WordsWith::words_with_lem))]
 #[unsafe(no_mangle)]
 pub extern "C" fn neukolja_check(definition: &[u8], message: &mut [u8], answer: &mut [u64; 5])
     ensures { words_with answer.new [] [] message.new ≡ check_answer (length message.old) definition.now }
@@ -59,6 +60,7 @@ pub extern "C" fn neukolja_check(definition: &[u8], message: &mut [u8], answer: 
     write_words(check_body::check(definition, message), answer);
 }
 
+#[tactic(auto, using(crate::proofs::WordsWith::words_with_lem))]
 #[unsafe(no_mangle)]
 pub extern "C" fn neukolja_registry(
     registry: &[u8],
@@ -75,6 +77,7 @@ pub extern "C" fn neukolja_registry(
     write_words(built.answer, answer);
 }
 
+#[tactic(auto, using(crate::proofs::WordsWith::words_with_lem))]
 #[unsafe(no_mangle)]
 pub extern "C" fn neukolja_check_library(
     registry: &[u8],
@@ -87,6 +90,7 @@ pub extern "C" fn neukolja_check_library(
     write_words(check_library::check_library(registry, res, message), answer);
 }
 
+#[tactic(auto, using(crate::proofs::WordsWith::words_with_lem))]
 #[unsafe(no_mangle)]
 pub extern "C" fn neukolja_check_at(
     registry: &[u8],
@@ -99,6 +103,7 @@ pub extern "C" fn neukolja_check_at(
     write_words(check_library::check_at(registry, index, message), answer);
 }
 
+#[tactic(auto, using(crate::proofs::WordsWith::words_with_lem))]
 #[unsafe(no_mangle)]
 pub extern "C" fn neukolja_substitute<'a>(
     definition: &'a [u8],
@@ -118,6 +123,7 @@ pub extern "C" fn neukolja_substitute<'a>(
     );
 }
 
+#[tactic(auto, using(crate::proofs::WordsWith::words_with_lem))]
 #[unsafe(no_mangle)]
 pub extern "C" fn neukolja_expand<'a>(
     registry: &'a [u8],
@@ -136,6 +142,7 @@ pub extern "C" fn neukolja_expand<'a>(
     write_words(r, answer);
 }
 
+#[tactic(auto, using(crate::proofs::WordsWith::seven_with_lem))]
 #[unsafe(no_mangle)]
 pub extern "C" fn neukolja_preview<'a>(
     registry: &'a [u8],
@@ -152,6 +159,7 @@ pub extern "C" fn neukolja_preview<'a>(
     write_seven(r, answer);
 }
 
+#[tactic(auto, using(crate::proofs::WordsWith::words_with_lem))]
 #[unsafe(no_mangle)]
 pub extern "C" fn neukolja_judge<'a>(
     registry: &'a [u8],
@@ -172,6 +180,7 @@ pub extern "C" fn neukolja_judge<'a>(
     );
 }
 
+#[tactic(auto, using(crate::proofs::WordsWith::words_with_lem))]
 #[unsafe(no_mangle)]
 pub extern "C" fn neukolja_older(tape: &[u8], res: &mut [u8], answer: &mut [u64; 5])
     ensures { words_with answer.new res.new [] [] ≡ older_answer (length res.old) tape.now }
@@ -179,6 +188,7 @@ pub extern "C" fn neukolja_older(tape: &[u8], res: &mut [u8], answer: &mut [u64;
     write_words(older::older(tape, res), answer);
 }
 
+#[tactic(auto, using(crate::proofs::WordsWith::words_with_lem))]
 #[unsafe(no_mangle)]
 pub extern "C" fn neukolja_merge(
     first: &[u8],
@@ -192,6 +202,7 @@ pub extern "C" fn neukolja_merge(
     write_words(merge::merge(first, second, res, message), answer);
 }
 
+#[tactic(auto, using(crate::proofs::WordsWith::words_with_lem))]
 #[unsafe(no_mangle)]
 pub extern "C" fn neukolja_profile(condition: &[u8], answer: &mut [u64; 5])
     ensures { words_with answer.new [] [] [] ≡ profile_answer condition.now }
@@ -199,6 +210,7 @@ pub extern "C" fn neukolja_profile(condition: &[u8], answer: &mut [u64; 5])
     write_words(profile::profile(condition), answer);
 }
 
+#[tactic(auto, using(crate::proofs::WordsWith::words_with_lem))]
 #[unsafe(no_mangle)]
 pub extern "C" fn neukolja_provider(tape: &[u8], answer: &mut [u64; 5])
     ensures { words_with answer.new [] [] [] ≡ provider_answer tape.now }
@@ -206,6 +218,7 @@ pub extern "C" fn neukolja_provider(tape: &[u8], answer: &mut [u64; 5])
     write_words(provider::provider(tape), answer);
 }
 
+#[tactic(auto, using(crate::proofs::WordsWith::words_with_lem))]
 #[unsafe(no_mangle)]
 pub extern "C" fn neukolja_argument_to_term(tape: &[u8], res: &mut [u8], answer: &mut [u64; 5])
     ensures { words_with answer.new res.new [] [] ≡ argument_to_term_answer (length res.old) tape.now }
@@ -213,6 +226,7 @@ pub extern "C" fn neukolja_argument_to_term(tape: &[u8], res: &mut [u8], answer:
     write_words(provider::argument_to_term(tape, res), answer);
 }
 
+#[tactic(auto, using(crate::proofs::WordsWith::words_with_lem))]
 #[unsafe(no_mangle)]
 pub extern "C" fn neukolja_term_to_argument(tape: &[u8], res: &mut [u8], answer: &mut [u64; 5])
     ensures { words_with answer.new res.new [] [] ≡ term_to_argument_answer (length res.old) tape.now }

@@ -1,5 +1,6 @@
 -- The entry at a place of a tape or of a work area: what is read there, and the name that it spells.
 -- Assumes nothing.
+use Rattle.std.proofs.Common.{Some}
 use Prim.Native.Nat.{ℕ, ◌+◌, ◌*◌}
 use mathlib.Core.Path.{◌≡◌, refl, sym}
 use mathlib.Core.List.{List, [], ◌∷◌}
@@ -16,14 +17,12 @@ use Rattle.tape.proofs.Located.{past, Inside}
 use Rattle.tape.proofs.Runs.{run_code, run_value}
 use Rattle.nodes.specs.Node.{has_entry, has_text, named, entry_at, expect_at, name_at}
 use Rattle.nodes.specs.declared.Name.{Name}
-use Rattle.nodes.specs.declared.EntryRead.TheVariants as read
-use Rattle.nodes.specs.declared.ValueRead.TheVariants.{Value}
 
 texted_first : {e : Entry} {es : List Entry} → WellTexted (e ∷ es) → text_width (is_text e.code) e.value ≡ length e.text
 texted_first h = sym (all_head h)
 
 module _ {s : List ℕ} {l : Layout} {p : Place} where
-  pub is_entry : {e : Entry} {es : List Entry} → Inside s l p (e ∷ es) → entry_at s l p ≡ read.Entry e.code e.value (past (e ∷ []) p)
+  pub is_entry : {e : Entry} {es : List Entry} → Inside s l p (e ∷ es) → entry_at s l p ≡ Some (e.code, e.value, past (e ∷ []) p)
   unfolding entry_at has_entry has_text past
   is_entry {e} {es} i =
       let stands = i.run.stands in
@@ -34,7 +33,7 @@ module _ {s : List ℕ} {l : Layout} {p : Place} where
         le-leb (l.text + p.text + length e.text) (length s) (stands_text stands).inside,
       ))
 
-  pub is_expected : {e : Entry} {es : List Entry} → Inside s l p (e ∷ es) → expect_at s l p e.code ≡ Value e.value (past (e ∷ []) p)
+  pub is_expected : {e : Entry} {es : List Entry} → Inside s l p (e ∷ es) → expect_at s l p e.code ≡ Some (e.value, past (e ∷ []) p)
   unfolding expect_at
   is_expected {e} i = rw (is_entry i, eq-eqb e.code e.code refl)
 

@@ -1,5 +1,6 @@
 -- What the tests of an entry say, and what is read where it has a code.
 -- Assumes nothing.
+use Rattle.std.proofs.Common.{Option, Some, None}
 use Prim.Native.Nat.{ℕ, ◌+◌, ◌*◌, ◌≤◌, ◌<◌}
 use mathlib.Core.Path.{◌≡◌, refl, sym, ◌∙◌}
 use mathlib.Core.Bool.{Bool, true, false, not}
@@ -14,8 +15,6 @@ use Rattle.tape.specs.Pick.{pick}
 use Rattle.tape.specs.declared.layout.Layout.{Layout}
 use Rattle.tape.specs.declared.layout.Place.{Place}
 use Rattle.nodes.specs.Node.{has_entry, has_text, on_entry, entry_at, expect_at}
-use Rattle.nodes.specs.declared.EntryRead.TheVariants.{Entry, End}
-use Rattle.nodes.specs.declared.ValueRead.TheVariants.{Value, Nothing}
 
 -- what the two tests say
 pub entry_held : {r : Bool} (len : ℕ) (l : Layout) (at : ℕ) → r ≡ has_entry len l at → not r ≡ false
@@ -33,12 +32,12 @@ text_held {r} len l p size e h = leb→le (l.text + p.text + size) len (from_tru
 -- ------------------------------------------------------------------ the entry at a place, if it has a code
 
 module _ (s : List ℕ) (l : Layout) (p : Place) (code : ℕ) where
-  pub expect_none : has_entry (length s) l p.at ≡ false → Nothing ≡ expect_at s l p code
+  pub expect_none : has_entry (length s) l p.at ≡ false → None ≡ expect_at s l p code
   unfolding expect_at entry_at
   expect_none h = rw h
 
   module _ (h : has_entry (length s) l p.at ≡ true) where
-    pub expect_other : {c : ℕ} → c ≡ code_at s l p.at → (c ≡ code → ⊥) → Nothing ≡ expect_at s l p code
+    pub expect_other : {c : ℕ} → c ≡ code_at s l p.at → (c ≡ code → ⊥) → None ≡ expect_at s l p code
     unfolding expect_at entry_at
     expect_other {c} q n =
         let v = value_at s l p.at in
@@ -46,7 +45,7 @@ module _ (s : List ℕ) (l : Layout) (p : Place) (code : ℕ) where
         rw (h, ← q) (go (has_text (length s) l p size) c v (onward p size) n)
       where
         go : (b : Bool) (c v : ℕ) (next : Place) → (c ≡ code → ⊥)
-            → Nothing ≡ on_entry Nothing (λ found value next. pick (eqb found code) (Value value next) Nothing) (pick b (Entry c v next) End)
+            → ◌≡◌ {A = Option (ℕ × Place)} None (on_entry None (λ found value next. pick (eqb found code) (Some (value, next)) None) (pick b (Some (c, v, next)) None))
         go true c v next n = rw (ne_eqb c code n)
         go false c v next n = refl
 
@@ -54,10 +53,10 @@ module _ (s : List ℕ) (l : Layout) (p : Place) (code : ℕ) where
       width : width_at s l p.at ≡ size
       width = rw (k, ← y) (sym z)
 
-      pub expect_past : has_text (length s) l p size ≡ false → Nothing ≡ expect_at s l p code
+      pub expect_past : has_text (length s) l p size ≡ false → None ≡ expect_at s l p code
       unfolding expect_at entry_at
       expect_past t = rw (h, width, t)
 
-      pub expect_value : has_text (length s) l p size ≡ true → Value v (onward p size) ≡ expect_at s l p code
+      pub expect_value : has_text (length s) l p size ≡ true → Some (v, onward p size) ≡ expect_at s l p code
       unfolding expect_at entry_at
       expect_value t = rw (h, width, t, k, eq-eqb code code refl, ← y)

@@ -1,30 +1,25 @@
--- The way past the items of a list, one at a time.
+-- The way past the items of a list, one at a time: k of n are passed at p.
 -- Assumes nothing.
-use Prim.Native.Nat.{ℕ, zero, suc, ◌-◌, ◌≤◌, ◌<◌}
-use native.Mathlib.Nat.{not-suc-le-zero}
+use Rattle.std.proofs.Common.{Option, Some, None}
+use Prim.Native.Nat.{ℕ, suc, ◌+◌, ◌-◌, ◌≤◌, ◌<◌}
 use native.Mathlib.Omega.{arith}
-use mathlib.Core.Path.{◌≡◌, refl}
-use Rattle.nodes.specs.Node.{past_items}
+use mathlib.Core.Path.{◌≡◌, ap, sym, ◌∙◌}
+use Rattle.nodes.specs.Node.{past_items, on_place}
 use Rattle.tape.specs.declared.layout.Place.{Place}
-use Rattle.tape.specs.declared.scan.Skipped.{Skipped}
-use Rattle.tape.specs.declared.scan.Skipped.TheVariants.{At, Nowhere}
 
-module _ (f : Place → Skipped) where
-  -- one item, and the others
-  pub item_passed : (n : ℕ) (p : Place) {q : Place} → 0 < n → f p ≡ At q → past_items f n p ≡ past_items f (n - 1) q
+module _ (f : Place → Option Place) (n k : ℕ) (p : Place) where
+  one_more : k < n → past_items f (n - k) p ≡ on_place None (past_items f (n - (k + 1))) (f p)
   unfolding past_items
-  item_passed zero p h e = absurd (not-suc-le-zero h)
-  item_passed (suc n) p {q} h e =
-      let less : suc n - 1 ≡ n = omega arith in
-      rw (e, less)
+  one_more h = let m : n - k ≡ suc (n - (k + 1)) = omega (arith, h) in ap (λ (j : ℕ). past_items f j p) m
+
+  -- one item more
+  pub item_passed : {q : Place} {whole : Option Place} → k < n → f p ≡ Some q → past_items f (n - k) p ≡ whole → past_items f (n - (k + 1)) q ≡ whole
+  item_passed h e i = sym (one_more h ∙ ap (on_place None (past_items f (n - (k + 1)))) e) ∙ i
 
   -- no item where one is wanted
-  pub item_missing : (n : ℕ) (p : Place) → 0 < n → f p ≡ Nowhere → past_items f n p ≡ Nowhere
-  unfolding past_items
-  item_missing zero p h e = absurd (not-suc-le-zero h)
-  item_missing (suc n) p h e = rw e
+  pub item_missing : {whole : Option Place} → k < n → f p ≡ None → past_items f (n - k) p ≡ whole → None ≡ whole
+  item_missing h e i = sym (one_more h ∙ ap (on_place None (past_items f (n - (k + 1)))) e) ∙ i
 
-  pub items_passed : (n : ℕ) (p : Place) → n ≤ 0 → past_items f n p ≡ At p
+  pub items_passed : {whole : Option Place} → n ≤ k → past_items f (n - k) p ≡ whole → Some p ≡ whole
   unfolding past_items
-  items_passed zero p h = refl
-  items_passed (suc n) p h = absurd (not-suc-le-zero h)
+  items_passed h i = let m : n - k ≡ 0 = omega (arith, h) in sym (ap (λ (j : ℕ). past_items f j p) m) ∙ i

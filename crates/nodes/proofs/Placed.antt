@@ -1,6 +1,7 @@
 -- Trees at a place of a tape or of a work area: for each sort and each of its constructors what the node read gives there, and where
 -- the tree's parts stand. One step, and no recursion: a walk's own induction takes the parts from here.
 -- Assumes nothing.
+use Rattle.std.proofs.Common.{Some, Ok}
 use Prim.Native.Nat.{ℕ}
 use mathlib.Core.Path.{◌≡◌, refl, sym, ap, ◌∙◌}
 use mathlib.Core.List.{List, [], ◌∷◌, ◌++◌, append_assoc}
@@ -79,32 +80,22 @@ use Rattle.nodes.specs.Node.{
 }
 use Rattle.tape.specs.declared.layout.Layout.{Layout}
 use Rattle.tape.specs.declared.layout.Place.{Place}
-use Rattle.tape.specs.declared.scan.Skipped.TheVariants.{At}
 use Rattle.nodes.specs.declared.Name.{Name}
-use Rattle.nodes.specs.declared.ValueRead.TheVariants.{Value}
 use Rattle.nodes.specs.declared.Sigil.{Sigil as SigilNode}
 use Rattle.nodes.specs.declared.Sigil.TheVariants as sigil
 use Rattle.nodes.specs.declared.ConditionNode.{ConditionNode}
 use Rattle.nodes.specs.declared.ConditionNode.TheVariants as condition
-use Rattle.nodes.specs.declared.ConditionRead.TheVariants as cr
 use Rattle.nodes.specs.declared.TermNode.{TermNode}
 use Rattle.nodes.specs.declared.TermNode.TheVariants as term
-use Rattle.nodes.specs.declared.TermRead.TheVariants as tr
 use Rattle.nodes.specs.declared.AggNode.{AggNode}
 use Rattle.nodes.specs.declared.AggNode.TheVariants as agg
-use Rattle.nodes.specs.declared.AggRead.TheVariants as gr
 use Rattle.nodes.specs.declared.SlotNode.{SlotNode}
 use Rattle.nodes.specs.declared.SlotNode.TheVariants as slot
-use Rattle.nodes.specs.declared.SlotRead.TheVariants as sr
 use Rattle.nodes.specs.declared.WithinNode.TheVariants as within
-use Rattle.nodes.specs.declared.WithinRead.TheVariants as wr
-use Rattle.nodes.specs.declared.HeadingRead.TheVariants as hr
 use Rattle.nodes.specs.declared.ArgNode.{ArgNode}
 use Rattle.nodes.specs.declared.ArgNode.TheVariants as argument
-use Rattle.nodes.specs.declared.ArgRead.TheVariants as ar
 use Rattle.nodes.specs.declared.BodyNode.{BodyNode}
 use Rattle.nodes.specs.declared.BodyNode.TheVariants as body
-use Rattle.nodes.specs.declared.BodyRead.TheVariants as br
 use Rattle.tape.proofs.Located.{past, past_append, Inside, inside_front, inside_back, inside_next, RunsFrom, joined, runs_from, Parts, parts_of_lem}
 use Rattle.nodes.proofs.Entries.{is_entry, is_expected, is_spelled, Named}
 
@@ -112,24 +103,24 @@ use Rattle.nodes.proofs.Entries.{is_entry, is_expected, is_spelled, Named}
 
 module _ {s : List ℕ} {l : Layout} where
   -- the way past an entry, and past texts
-  past_entry : {p : Place} (e : Entry) {es : List Entry} → Inside s l p (e ∷ es) → past_entry_at s l e.code p ≡ At (past (e ∷ []) p)
+  past_entry : {p : Place} (e : Entry) {es : List Entry} → Inside s l p (e ∷ es) → past_entry_at s l e.code p ≡ Some (past (e ∷ []) p)
   past_entry e i = rw (is_expected i)
 
-  pub past_texts : {p : Place} (ts : List Text) → Inside s l p (flat_texts ts) → past_texts_at s l p (length ts) ≡ At (past (flat_texts ts) p)
+  pub past_texts : {p : Place} (ts : List Text) → Inside s l p (flat_texts ts) → past_texts_at s l p (length ts) ≡ Some (past (flat_texts ts) p)
   unfolding past_texts_at past_items flat_texts past
   past_texts [] i = refl
   past_texts {p = p} (t ∷ ts) i = rw (past_entry (text_entry 40 t) i) (past_texts {p = past (text_entry 40 t ∷ []) p} ts (inside_next (text_entry 40 t) (flat_texts ts) i))
 
   -- a list's count, and its items
   pub parts_list : {p : Place} (n : ℕ) (es : List Entry) → Inside s l p (entry 41 n ∷ es)
-      → Parts s l p (entry 41 n ∷ []) (λ next. expect_at s l p 41 ≡ Value n next) (es ∷ []) (past (entry 41 n ∷ es) p)
+      → Parts s l p (entry 41 n ∷ []) (λ next. expect_at s l p 41 ≡ Some (n, next)) (es ∷ []) (past (entry 41 n ∷ es) p)
   parts_list n es i = parts_of_lem (entry 41 n ∷ []) es [] i (is_expected i)
 
 -- ------------------------------------------------------------------ slots, types, withins
 
 -- A slot with a name, read as `node` of it.
 abbrev pub NamedSlot : List ℕ → Layout → Place → BinderSlot → (Name → SlotNode) → Text → Type 0
-NamedSlot s l p v node n = Named s l (λ name. slot_at s l p ≡ sr.Node (node name) (past (flat_slot v ∷ []) p)) n
+NamedSlot s l p v node n = Named s l (λ name. slot_at s l p ≡ Ok (node name, past (flat_slot v ∷ []) p)) n
 
 abbrev pub SlotParts : List ℕ → Layout → Place → BinderSlot → Type 0
 SlotParts s l p (BinderSlot.Name n) = NamedSlot s l p (BinderSlot.Name n) slot.Name n
@@ -151,9 +142,9 @@ module _ {s : List ℕ} {l : Layout} where
 -- an interval stands in a within as in an argument
 abbrev pub WithinParts : List ℕ → Layout → Place → WithinSpec → Type 0
 WithinParts s l p (WithinSpec.Concrete i) =
-    within_at s l p ≡ wr.Node within.Concrete (past (flat_within (WithinSpec.Concrete i) ∷ []) p)
+    within_at s l p ≡ Ok (within.Concrete, past (flat_within (WithinSpec.Concrete i) ∷ []) p)
 WithinParts s l p (WithinSpec.ParamRef n) =
-    Named s l (λ name. within_at s l p ≡ wr.Node (within.ParamRef name) (past (flat_within (WithinSpec.ParamRef n) ∷ []) p)) n
+    Named s l (λ name. within_at s l p ≡ Ok (within.ParamRef name, past (flat_within (WithinSpec.ParamRef n) ∷ []) p)) n
 
 module _ {s : List ℕ} {l : Layout} {p : Place} where
   pub parts_within : (w : WithinSpec) → Inside s l p (flat_within w ∷ []) → WithinParts s l p w
@@ -161,7 +152,7 @@ module _ {s : List ℕ} {l : Layout} {p : Place} where
   parts_within (WithinSpec.Concrete i) h = go i.unit h
     where
       go : (u : TimeUnit) → Inside s l p (entry (flat_unit u) i.amount ∷ [])
-          → within_at s l p ≡ wr.Node within.Concrete (past (entry (flat_unit u) i.amount ∷ []) p)
+          → within_at s l p ≡ Ok (within.Concrete, past (entry (flat_unit u) i.amount ∷ []) p)
       go TimeUnit.Seconds h = rw (is_entry h)
       go TimeUnit.Minutes h = rw (is_entry h)
       go TimeUnit.Hours h = rw (is_entry h)
@@ -169,12 +160,12 @@ module _ {s : List ℕ} {l : Layout} {p : Place} where
       go TimeUnit.Weeks h = rw (is_entry h)
   parts_within (WithinSpec.ParamRef n) h = named_at _ h (rw (is_entry h))
 
-  pub past_type : (t : BinderType) → Inside s l p (flat_type t) → past_type_at s l p ≡ At (past (flat_type t) p)
+  pub past_type : (t : BinderType) → Inside s l p (flat_type t) → past_type_at s l p ≡ Some (past (flat_type t) p)
   unfolding past_type_at flat_type
   past_type BinderType.Timepoint i = rw (is_entry i)
   past_type (BinderType.Named path) i =
       let texts = inside_next (entry 47 (length path)) (flat_texts path) i in
-      rw (is_entry i) (past_texts path texts ∙ ap At (sym (past_append (entry 47 (length path) ∷ []) (flat_texts path) p)))
+      rw (is_entry i) (past_texts path texts ∙ ap Some (sym (past_append (entry 47 (length path) ∷ []) (flat_texts path) p)))
 
 -- ------------------------------------------------------------------ conditions
 
@@ -194,7 +185,7 @@ field_list fs = entry 41 (length_fields fs) ∷ flat_fields fs
 module _ (s : List ℕ) (l : Layout) (p : Place) where
   -- a condition of these own entries is read as this node, and these runs follow
   abbrev ConditionOf : Condition → List Entry → ConditionNode → List (List Entry) → Type 0
-  ConditionOf c own node ess = Parts s l p own (λ next. condition_at s l p ≡ cr.Node node next) ess (past (flat_condition c) p)
+  ConditionOf c own node ess = Parts s l p own (λ next. condition_at s l p ≡ Ok (node, next)) ess (past (flat_condition c) p)
 
   abbrev pub ConditionParts : Condition → Type 0
   ConditionParts (Condition.And sp a b) =
@@ -222,14 +213,14 @@ module _ (s : List ℕ) (l : Layout) (p : Place) where
       ConditionOf (Condition.ConditionCall sp c) (entry 11 sp ∷ []) (condition.Call sp) (flat_call c ∷ [])
   ConditionParts (Condition.SigilRef sp g n) =
       Named s l
-      (λ name. condition_at s l p ≡ cr.Node (condition.SigilRef sp (sigil_node g) name) (past (flat_condition (Condition.SigilRef sp g n)) p)) n
+      (λ name. condition_at s l p ≡ Ok (condition.SigilRef sp (sigil_node g) name, past (flat_condition (Condition.SigilRef sp g n)) p)) n
   ConditionParts (Condition.Refine sp o a fs) =
       ConditionOf (Condition.Refine sp o a fs) (entry 13 sp ∷ entry 42 o ∷ []) (condition.Refine sp o) (flat_condition a ∷ field_list fs ∷ [])
 
 -- the way to a predicate's fields
 past_heading : {s : List ℕ} {l : Layout} {p : Place} (o : ℕ) (ns : List Text) (a k : Text) (es : List Entry)
     → Inside s l p (predicate_head o ns a k ++ es)
-    → past_heading_at s l p ≡ At (past (predicate_head o ns a k) p)
+    → past_heading_at s l p ≡ Some (past (predicate_head o ns a k) p)
 unfolding past_heading_at past
 past_heading o ns a k es h =
     let two = flat_texts (a ∷ k ∷ []) in
@@ -280,14 +271,14 @@ module _ {s : List ℕ} {l : Layout} {p : Place} where
 
 module _ (s : List ℕ) (l : Layout) (p : Place) where
   abbrev TermOf : Term → List Entry → TermNode → List (List Entry) → Type 0
-  TermOf t own node ess = Parts s l p own (λ next. term_at s l p ≡ tr.Node node next) ess (past (flat_term t) p)
+  TermOf t own node ess = Parts s l p own (λ next. term_at s l p ≡ Ok (node, next)) ess (past (flat_term t) p)
 
   -- a term with no term and no name of a variable in it; and one that is a name
   abbrev PlainTerm : Term → Type 0
-  PlainTerm t = term_at s l p ≡ tr.Node term.Plain (past (flat_term t) p)
+  PlainTerm t = term_at s l p ≡ Ok (term.Plain, past (flat_term t) p)
 
   abbrev NamedTerm : Term → (Name → TermNode) → Text → Type 0
-  NamedTerm t node n = Named s l (λ name. term_at s l p ≡ tr.Node (node name) (past (flat_term t) p)) n
+  NamedTerm t node n = Named s l (λ name. term_at s l p ≡ Ok (node name, past (flat_term t) p)) n
 
   abbrev pub TermParts : Term → Type 0
   TermParts (Term.Entity ty id) = PlainTerm (Term.Entity ty id)
@@ -309,7 +300,7 @@ module _ (s : List ℕ) (l : Layout) (p : Place) where
 
 -- a term of an entry and texts
 path_term : {s : List ℕ} {l : Layout} {p : Place} (e : Entry) (ts : List Text) → Inside s l p (e ∷ flat_texts ts)
-    → path_at s l (past (e ∷ []) p) (length ts) ≡ tr.Node term.Plain (past (e ∷ flat_texts ts) p)
+    → path_at s l (past (e ∷ []) p) (length ts) ≡ Ok (term.Plain, past (e ∷ flat_texts ts) p)
 unfolding path_at past
 path_term e ts i = rw (past_texts ts (inside_next e (flat_texts ts) i))
 
@@ -339,7 +330,7 @@ binder_list bs = entry 41 (length bs) ∷ flat_binders bs
 
 module _ (s : List ℕ) (l : Layout) (p : Place) where
   abbrev AggOf : AggExpr → List Entry → AggNode → List (List Entry) → Type 0
-  AggOf a own node ess = Parts s l p own (λ next. agg_at s l p ≡ gr.Node node next) ess (past (flat_agg a) p)
+  AggOf a own node ess = Parts s l p own (λ next. agg_at s l p ≡ Ok (node, next)) ess (past (flat_agg a) p)
 
   abbrev pub AggParts : AggExpr → Type 0
   AggParts (AggExpr.Sum sp v bs c) =
@@ -369,7 +360,7 @@ module _ (s : List ℕ) (l : Layout) (p : Place) where
   abbrev pub FieldsParts : NamedArgs → Type 0
   FieldsParts NamedArgs.no_fields = past (flat_fields NamedArgs.no_fields) p ≡ p
   FieldsParts (NamedArgs.cons_field n t fs) =
-      Parts s l p (text_entry 40 n ∷ []) (λ next. expect_at s l p 40 ≡ Value (length n) next) (flat_term t ∷ flat_fields fs ∷ [])
+      Parts s l p (text_entry 40 n ∷ []) (λ next. expect_at s l p 40 ≡ Some (length n, next)) (flat_term t ∷ flat_fields fs ∷ [])
       (past (flat_fields (NamedArgs.cons_field n t fs)) p)
 
   abbrev pub TermsParts : Terms → Type 0
@@ -422,7 +413,7 @@ pub record HeadingParts (s : List ℕ) (l : Layout) (p : Place) (code span : ℕ
   pub its_name : Name
   pub spelled : name_at s l its_name ≡ name
   pub parts : Parts s l p (heading_entries code span name count)
-      (λ next. heading_at s l p code ≡ hr.Node (record { span = span; name = its_name; count = count }) next) ess end
+      (λ next. heading_at s l p code ≡ Ok (record { span = span; name = its_name; count = count }, next)) ess end
 
 module _ {s : List ℕ} {l : Layout} {p : Place} where
   parts_heading : (code span : ℕ) (name : Text) (count : ℕ) (es : List Entry) (rest : List (List Entry))
@@ -445,7 +436,7 @@ module _ {s : List ℕ} {l : Layout} {p : Place} where
 
 module _ (s : List ℕ) (l : Layout) (p : Place) where
   abbrev ArgOf : CallArg → List Entry → ArgNode → List (List Entry) → Type 0
-  ArgOf a own node ess = Parts s l p own (λ next. argument_at s l p ≡ ar.Node node next) ess (past (flat_arg a) p)
+  ArgOf a own node ess = Parts s l p own (λ next. argument_at s l p ≡ Ok (node, next)) ess (past (flat_arg a) p)
 
   -- an interval stands there as a within does
   abbrev pub ArgParts : CallArg → Type 0
@@ -465,9 +456,9 @@ module _ {s : List ℕ} {l : Layout} {p : Place} where
 
 -- A parameter is its span and its name.
 pub record ParamParts (s : List ℕ) (l : Layout) (p : Place) (q : MacroParam) (es : List Entry) (end : Place) : Type 0 where
-  pub span : expect_at s l p 42 ≡ Value q.span (past (entry 42 q.span ∷ []) p)
+  pub span : expect_at s l p 42 ≡ Some (q.span, past (entry 42 q.span ∷ []) p)
   pub name : Parts s l (past (entry 42 q.span ∷ []) p) (text_entry 40 q.name ∷ [])
-      (λ next. expect_at s l (past (entry 42 q.span ∷ []) p) 40 ≡ Value (length q.name) next) (es ∷ []) end
+      (λ next. expect_at s l (past (entry 42 q.span ∷ []) p) 40 ≡ Some (length q.name, next)) (es ∷ []) end
   pub spelled : name_at s l (named (past (entry 42 q.span ∷ []) p) (length q.name)) ≡ q.name
 
 module _ (s : List ℕ) (l : Layout) (p : Place) where
@@ -476,10 +467,10 @@ module _ (s : List ℕ) (l : Layout) (p : Place) where
   ParamsParts (q ∷ qs) = ParamParts s l p q (flat_params qs) (past (flat_params (q ∷ qs)) p)
 
   abbrev BodyOf : MacroBody → List Entry → BodyNode → List (List Entry) → Type 0
-  BodyOf b own node ess = Parts s l p own (λ next. body_at s l p ≡ br.Node node next) ess (past (flat_body b) p)
+  BodyOf b own node ess = Parts s l p own (λ next. body_at s l p ≡ Ok (node, next)) ess (past (flat_body b) p)
 
   abbrev pub BodyParts : MacroBody → Type 0
-  BodyParts MacroBody.Cedar = body_at s l p ≡ br.Node body.Cedar (past (flat_body MacroBody.Cedar) p)
+  BodyParts MacroBody.Cedar = body_at s l p ≡ Ok (body.Cedar, past (flat_body MacroBody.Cedar) p)
   BodyParts (MacroBody.TemporalCondition c) =
       BodyOf (MacroBody.TemporalCondition c) (entry 62 0 ∷ []) body.Condition (flat_condition c ∷ [])
   BodyParts (MacroBody.TemporalValue t) = BodyOf (MacroBody.TemporalValue t) (entry 63 0 ∷ []) body.Value (flat_term t ∷ [])
@@ -502,7 +493,7 @@ module _ {s : List ℕ} {l : Layout} where
       }
 
   pub past_params : {p : Place} (qs : List MacroParam) → Inside s l p (flat_params qs)
-      → past_params_at s l p (length qs) ≡ At (past (flat_params qs) p)
+      → past_params_at s l p (length qs) ≡ Some (past (flat_params qs) p)
   unfolding past_params_at past_items open_flat past
   past_params [] i = refl
   past_params {p = p} (q ∷ qs) i =
@@ -522,6 +513,6 @@ module _ {s : List ℕ} {l : Layout} where
 
   -- the list of definitions
   pub parts_registry : {p : Place} (ds : List MacroDef) → Inside s l p (flat_registry ds)
-      → Parts s l p (entry 41 (length ds) ∷ []) (λ next. expect_at s l p 41 ≡ Value (length ds) next) (flat_defs ds ∷ []) (past (flat_registry ds) p)
+      → Parts s l p (entry 41 (length ds) ∷ []) (λ next. expect_at s l p 41 ≡ Some (length ds, next)) (flat_defs ds ∷ []) (past (flat_registry ds) p)
   unfolding flat_registry
   parts_registry ds i = parts_list (length ds) (flat_defs ds) i

@@ -5,54 +5,47 @@
 #![tactic(auto)]
 
 ghost use Rattle.std.specs.Prelude.{◌≡◌, ◌+◌, ◌≤◌, ◌<◌};
-ghost use Rattle.definition.specs.Text.{eq_text};
 ghost use Rattle.tape.specs.Layouts.{onward};
-ghost use Rattle.nodes.specs.Node.{span_of, refusal_of, malformed, has_entry, has_text, entry_at, expect_at, past_texts_at, past_heading_at, past_type_at, condition_at, predicate_at, comparison_at, refine_at, sigil_at, named, term_at, path_at, agg_at, slot_at, within_at, heading_at, argument_at, param_at, past_params_at, body_at, name_at};
+ghost use Rattle.nodes.specs.Node.{span_of, has_entry, has_text, entry_at, expect_at, past_entry_at, past_param_at, past_texts_at, past_heading_at, past_type_at, condition_at, predicate_at, comparison_at, refine_at, sigil_at, named, term_at, path_at, agg_at, slot_at, within_at, heading_at, argument_at, param_at, past_params_at, body_at, name_at};
 
+use grammar::code;
 use grammar::kind::text_width;
 use tape::layout::{Layout, Place, code_at, value_at};
-use tape::scan::Skipped;
 
-#[derive(Clone, Copy)]
+#[derive(Clone, Copy, Debug, PartialEq, Eq)]
 pub struct Span {
     pub start: u32,
     pub end: u32,
 }
 
-#[derive(Clone, Copy)]
+#[derive(Clone, Copy, Debug, PartialEq, Eq)]
 pub struct Refusal {
     pub number: u32,
     pub span: Span,
 }
 
+impl Refusal {
+    // No node of the sort that was asked for stands there, which no accepted tape shows.
+    pub const MALFORMED: Refusal = Refusal {
+        number: 2,
+        span: Span { start: 0, end: 0 },
+    };
+}
+
 // Where a name stands in a tape's text.
-#[derive(Clone, Copy)]
+#[derive(Clone, Copy, Debug, PartialEq, Eq)]
 pub struct Name {
     pub text: usize,
     pub size: usize,
 }
 
-// An entry's code and value with the next place.
-#[derive(Clone, Copy)]
-pub enum EntryRead {
-    Entry(u8, u64, Place),
-    End,
-}
-
-// The value of an entry with the code that was asked for.
-#[derive(Clone, Copy)]
-pub enum ValueRead {
-    Value(u64, Place),
-    Nothing,
-}
-
-#[derive(Clone, Copy)]
+#[derive(Clone, Copy, Debug, PartialEq, Eq)]
 pub enum Sigil {
     Param,
     Binder,
 }
 
-#[derive(Clone, Copy)]
+#[derive(Clone, Copy, Debug, PartialEq, Eq)]
 pub enum ConditionNode {
     And(u64),
     Or(u64),
@@ -73,13 +66,7 @@ pub enum ConditionNode {
     Refine(u64, u64),
 }
 
-#[derive(Clone, Copy)]
-pub enum ConditionRead {
-    Node(ConditionNode, Place),
-    Refused(Refusal),
-}
-
-#[derive(Clone, Copy)]
+#[derive(Clone, Copy, Debug, PartialEq, Eq)]
 pub enum TermNode {
     // a literal, a field's path or a wildcard: no name of a variable and no term in it
     Plain,
@@ -91,98 +78,50 @@ pub enum TermNode {
     BinderRef(Name),
 }
 
-#[derive(Clone, Copy)]
-pub enum TermRead {
-    Node(TermNode, Place),
-    Refused(Refusal),
-}
-
-#[derive(Clone, Copy)]
+#[derive(Clone, Copy, Debug, PartialEq, Eq)]
 pub enum AggNode {
     Sum(u64),
     Count(u64),
     Call(u64),
 }
 
-#[derive(Clone, Copy)]
-pub enum AggRead {
-    Node(AggNode, Place),
-    Refused(Refusal),
-}
-
-#[derive(Clone, Copy)]
+#[derive(Clone, Copy, Debug, PartialEq, Eq)]
 pub enum SlotNode {
     Name(Name),
     ParamRef(Name),
     BinderRef(Name),
 }
 
-#[derive(Clone, Copy)]
-pub enum SlotRead {
-    Node(SlotNode, Place),
-    Refused(Refusal),
-}
-
-#[derive(Clone, Copy)]
+#[derive(Clone, Copy, Debug, PartialEq, Eq)]
 pub enum WithinNode {
     Concrete,
     ParamRef(Name),
 }
 
-#[derive(Clone, Copy)]
-pub enum WithinRead {
-    Node(WithinNode, Place),
-    Refused(Refusal),
-}
-
 // The head of a call or of a definition: its span, its name, and how many arguments or parameters follow.
-#[derive(Clone, Copy)]
+#[derive(Clone, Copy, Debug, PartialEq, Eq)]
 pub struct Heading {
     pub span: u64,
     pub name: Name,
     pub count: u64,
 }
 
-#[derive(Clone, Copy)]
-pub enum HeadingRead {
-    Node(Heading, Place),
-    Refused(Refusal),
-}
-
-#[derive(Clone, Copy)]
+#[derive(Clone, Copy, Debug, PartialEq, Eq)]
 pub enum ArgNode {
     Condition,
     Term,
     Within,
 }
 
-#[derive(Clone, Copy)]
-pub enum ArgRead {
-    Node(ArgNode, Place),
-    Refused(Refusal),
-}
-
-// A parameter's name, and the place behind the parameter.
-#[derive(Clone, Copy)]
-pub enum ParamRead {
-    Param(Name, Place),
-    Nothing,
-}
-
-#[derive(Clone, Copy)]
+#[derive(Clone, Copy, Debug, PartialEq, Eq)]
 pub enum BodyNode {
     Cedar,
     Condition,
     Value,
 }
 
-#[derive(Clone, Copy)]
-pub enum BodyRead {
-    Node(BodyNode, Place),
-    Refused(Refusal),
-}
-
 // A span's two numbers: start + 2^32 × end.
+#[tactic(auto, unfolding(crate::specs::Node::span_of))]
 pub fn span_of(value: u64) -> Span
     ensures { result ≡ span_of value }
 {
@@ -192,23 +131,8 @@ pub fn span_of(value: u64) -> Span
     }
 }
 
-fn refuse(number: u32, span: u64) -> Refusal
-    ensures { result ≡ refusal_of number span }
-{
-    Refusal {
-        number,
-        span: span_of(span),
-    }
-}
-
-// No node of the sort that was asked for stands there.
-fn malformed() -> Refusal
-    ensures { result ≡ malformed }
-{
-    refuse(2, 0)
-}
-
 // Whether the slice holds entry `at` of a layout.
+#[tactic(auto, unfolding(crate::specs::Node::has_entry))]
 fn has_entry(len: usize, l: Layout, at: usize) -> bool
     ensures { result ≡ has_entry len l at }
 {
@@ -225,6 +149,7 @@ fn has_entry(len: usize, l: Layout, at: usize) -> bool
 }
 
 // Whether the slice holds a text of this size at a place.
+#[tactic(auto, unfolding(crate::specs::Node::has_text))]
 fn has_text(len: usize, l: Layout, p: Place, size: u64) -> bool
     ensures { result ≡ has_text len l p size }
 {
@@ -250,149 +175,154 @@ fn onward(p: Place, size: u64) -> Place
 }
 
 // The entry at a place, with the next place, if the slice holds its code, its value and its text.
-pub fn entry(s: &[u8], l: Layout, p: Place) -> EntryRead
+#[tactic(auto, using(crate::proofs::Held::entry_held, crate::proofs::Held::text_held), unfolding(crate::specs::Node::entry_at))]
+pub fn entry(s: &[u8], l: Layout, p: Place) -> Option<(u8, u64, Place)>
     ensures { result ≡ entry_at s.now l p }
 {
     let at = p.at;
     if !has_entry(s.len(), l, at) {
-        return EntryRead::End;
+        return None;
     }
     let code = code_at(s, l, at);
     let value = value_at(s, l, at);
     let size = text_width(code, value);
     if !has_text(s.len(), l, p, size) {
-        return EntryRead::End;
+        return None;
     }
-    EntryRead::Entry(code, value, onward(p, size))
+    Some((code, value, onward(p, size)))
 }
 
 // The entry at a place, if it has this code. The code is looked at first, since a caller's is known and so is whether it has text.
-pub fn expect(s: &[u8], l: Layout, p: Place, code: u8) -> ValueRead
+#[tactic(auto, using(crate::proofs::Held::entry_held, crate::proofs::Held::text_held, crate::proofs::Held::expect_none, crate::proofs::Held::expect_other, crate::proofs::Held::expect_past, crate::proofs::Held::expect_value))]
+pub fn expect(s: &[u8], l: Layout, p: Place, code: u8) -> Option<(u64, Place)>
     ensures { result ≡ expect_at s.now l p code }
 {
     let at = p.at;
     if !has_entry(s.len(), l, at) {
-        return ValueRead::Nothing;
+        return None;
     }
     if code_at(s, l, at) != code {
-        return ValueRead::Nothing;
+        return None;
     }
     let value = value_at(s, l, at);
     let size = text_width(code, value);
     if !has_text(s.len(), l, p, size) {
-        return ValueRead::Nothing;
+        return None;
     }
-    ValueRead::Value(value, onward(p, size))
+    Some((value, onward(p, size)))
+}
+
+// The place behind an entry with this code.
+fn past(s: &[u8], l: Layout, p: Place, code: u8) -> Option<Place>
+    ensures { result ≡ past_entry_at s.now l code p }
+{
+    let (_, next) = expect(s, l, p, code)?;
+    Some(next)
 }
 
 // The place behind `count` texts.
-fn past_texts(s: &[u8], l: Layout, p: Place, count: u64) -> Skipped
+#[tactic(auto, using(crate::proofs::Items::item_passed, crate::proofs::Items::item_missing, crate::proofs::Items::items_passed), unfolding(crate::specs::Node::past_texts_at))]
+fn past_texts(s: &[u8], l: Layout, p: Place, count: u64) -> Option<Place>
     ensures { result ≡ past_texts_at s.now l p count }
 {
     let mut q = p;
-    let mut left = count;
-    while 0 < left {
-        let ValueRead::Value(_, next) = expect(s, l, q, 40) else {
-            return Skipped::Nowhere;
-        };
-        q = next;
-        left = left - 1;
+    for _ in 0..count {
+        q = past(s, l, q, code::TEXT)?;
     }
-    Skipped::At(q)
+    Some(q)
 }
 
 // The place of a predicate's fields: behind its own span, its namespace, action and kind.
-fn past_heading(s: &[u8], l: Layout, p: Place) -> Skipped
+#[tactic(auto, unfolding(crate::specs::Node::past_heading_at))]
+fn past_heading(s: &[u8], l: Layout, p: Place) -> Option<Place>
     ensures { result ≡ past_heading_at s.now l p }
 {
-    let ValueRead::Value(_, list) = expect(s, l, p, 42) else {
-        return Skipped::Nowhere;
-    };
-    let ValueRead::Value(count, texts) = expect(s, l, list, 41) else {
-        return Skipped::Nowhere;
-    };
-    let Skipped::At(action) = past_texts(s, l, texts, count) else {
-        return Skipped::Nowhere;
-    };
+    let (_, list) = expect(s, l, p, code::SPAN)?;
+    let (count, texts) = expect(s, l, list, code::LIST)?;
+    let action = past_texts(s, l, texts, count)?;
     past_texts(s, l, action, 2)
 }
 
 // The place behind a binder's type.
-pub fn past_type(s: &[u8], l: Layout, p: Place) -> Skipped
+#[tactic(auto, unfolding(crate::specs::Node::past_type_at))]
+pub fn past_type(s: &[u8], l: Layout, p: Place) -> Option<Place>
     ensures { result ≡ past_type_at s.now l p }
 {
-    let EntryRead::Entry(code, value, next) = entry(s, l, p) else {
-        return Skipped::Nowhere;
-    };
+    let (code, value, next) = entry(s, l, p)?;
     match code {
-        46 => Skipped::At(next),
-        47 => past_texts(s, l, next, value),
-        _ => Skipped::Nowhere,
+        code::TYPE_TIMEPOINT => Some(next),
+        code::TYPE_NAMED => past_texts(s, l, next, value),
+        _ => None,
     }
 }
 
-pub fn read_condition(s: &[u8], l: Layout, p: Place) -> ConditionRead
+#[tactic(auto, unfolding(crate::specs::Node::condition_at, crate::specs::Node::refusal_of, crate::specs::Node::span_of))]
+pub fn read_condition(s: &[u8], l: Layout, p: Place) -> Result<(ConditionNode, Place), Refusal>
     ensures { result ≡ condition_at s.now l p }
 {
-    let EntryRead::Entry(code, value, next) = entry(s, l, p) else {
-        return ConditionRead::Refused(malformed());
-    };
+    let (code, value, next) = entry(s, l, p).ok_or(Refusal::MALFORMED)?;
     match code {
-        1 => ConditionRead::Node(ConditionNode::And(value), next),
-        2 => ConditionRead::Node(ConditionNode::Or(value), next),
-        3 => ConditionRead::Node(ConditionNode::Not(value), next),
-        4 => ConditionRead::Node(ConditionNode::Formerly(value), next),
-        5 => ConditionRead::Node(ConditionNode::Previous(value), next),
-        6 => ConditionRead::Node(ConditionNode::Since(value), next),
-        7 => read_predicate(s, l, next, value),
-        8 => read_comparison(s, l, next, value),
-        9 => ConditionRead::Node(ConditionNode::Exists(value), next),
-        10 => ConditionRead::Node(ConditionNode::Tp(value), next),
-        11 => ConditionRead::Node(ConditionNode::Call(value), next),
-        12 => read_sigil(s, l, next, value),
-        13 => read_refine(s, l, next, value),
-        _ => ConditionRead::Refused(malformed()),
+        code::AND => Ok((ConditionNode::And(value), next)),
+        code::OR => Ok((ConditionNode::Or(value), next)),
+        code::NOT => Ok((ConditionNode::Not(value), next)),
+        code::FORMERLY => Ok((ConditionNode::Formerly(value), next)),
+        code::PREVIOUS => Ok((ConditionNode::Previous(value), next)),
+        code::SINCE => Ok((ConditionNode::Since(value), next)),
+        code::PREDICATE => read_predicate(s, l, next, value),
+        code::COMPARISON => read_comparison(s, l, next, value),
+        code::EXISTS => Ok((ConditionNode::Exists(value), next)),
+        code::TP => Ok((ConditionNode::Tp(value), next)),
+        code::CALL => Ok((ConditionNode::Call(value), next)),
+        code::SIGIL_REF => read_sigil(s, l, next, value),
+        code::REFINE => read_refine(s, l, next, value),
+        _ => Err(Refusal::MALFORMED),
     }
 }
 
-fn read_predicate(s: &[u8], l: Layout, p: Place, span: u64) -> ConditionRead
+#[tactic(auto, unfolding(crate::specs::Node::predicate_at, crate::specs::Node::refusal_of, crate::specs::Node::span_of))]
+fn read_predicate(
+    s: &[u8],
+    l: Layout,
+    p: Place,
+    span: u64,
+) -> Result<(ConditionNode, Place), Refusal>
     ensures { result ≡ predicate_at s.now l p span }
 {
-    let Skipped::At(next) = past_heading(s, l, p) else {
-        return ConditionRead::Refused(malformed());
-    };
-    ConditionRead::Node(ConditionNode::Predicate(span), next)
+    let next = past_heading(s, l, p).ok_or(Refusal::MALFORMED)?;
+    Ok((ConditionNode::Predicate(span), next))
 }
 
-fn read_comparison(s: &[u8], l: Layout, p: Place, span: u64) -> ConditionRead
+#[tactic(auto, unfolding(crate::specs::Node::comparison_at, crate::specs::Node::refusal_of, crate::specs::Node::span_of))]
+fn read_comparison(
+    s: &[u8],
+    l: Layout,
+    p: Place,
+    span: u64,
+) -> Result<(ConditionNode, Place), Refusal>
     ensures { result ≡ comparison_at s.now l p span }
 {
-    let ValueRead::Value(_, next) = expect(s, l, p, 53) else {
-        return ConditionRead::Refused(malformed());
-    };
-    ConditionRead::Node(ConditionNode::Comparison(span), next)
+    let (_, next) = expect(s, l, p, code::OPERATOR).ok_or(Refusal::MALFORMED)?;
+    Ok((ConditionNode::Comparison(span), next))
 }
 
-fn read_refine(s: &[u8], l: Layout, p: Place, span: u64) -> ConditionRead
+#[tactic(auto, unfolding(crate::specs::Node::refine_at, crate::specs::Node::refusal_of, crate::specs::Node::span_of))]
+fn read_refine(s: &[u8], l: Layout, p: Place, span: u64) -> Result<(ConditionNode, Place), Refusal>
     ensures { result ≡ refine_at s.now l p span }
 {
-    let ValueRead::Value(own, next) = expect(s, l, p, 42) else {
-        return ConditionRead::Refused(malformed());
-    };
-    ConditionRead::Node(ConditionNode::Refine(span, own), next)
+    let (own, next) = expect(s, l, p, code::SPAN).ok_or(Refusal::MALFORMED)?;
+    Ok((ConditionNode::Refine(span, own), next))
 }
 
-fn read_sigil(s: &[u8], l: Layout, p: Place, span: u64) -> ConditionRead
+#[tactic(auto, unfolding(crate::specs::Node::sigil_at, crate::specs::Node::refusal_of, crate::specs::Node::span_of))]
+fn read_sigil(s: &[u8], l: Layout, p: Place, span: u64) -> Result<(ConditionNode, Place), Refusal>
     ensures { result ≡ sigil_at s.now l p span }
 {
-    let EntryRead::Entry(code, value, next) = entry(s, l, p) else {
-        return ConditionRead::Refused(malformed());
-    };
+    let (code, value, next) = entry(s, l, p).ok_or(Refusal::MALFORMED)?;
     let name = named(p, value);
     match code {
-        58 => ConditionRead::Node(ConditionNode::SigilRef(span, Sigil::Param, name), next),
-        59 => ConditionRead::Node(ConditionNode::SigilRef(span, Sigil::Binder, name), next),
-        _ => ConditionRead::Refused(malformed()),
+        code::SIGIL_PARAM => Ok((ConditionNode::SigilRef(span, Sigil::Param, name), next)),
+        code::SIGIL_BINDER => Ok((ConditionNode::SigilRef(span, Sigil::Binder, name), next)),
+        _ => Err(Refusal::MALFORMED),
     }
 }
 
@@ -406,193 +336,162 @@ fn named(p: Place, size: u64) -> Name
     }
 }
 
-pub fn read_term(s: &[u8], l: Layout, p: Place) -> TermRead
+#[tactic(auto, unfolding(crate::specs::Node::term_at, crate::specs::Node::refusal_of, crate::specs::Node::span_of))]
+pub fn read_term(s: &[u8], l: Layout, p: Place) -> Result<(TermNode, Place), Refusal>
     ensures { result ≡ term_at s.now l p }
 {
-    let EntryRead::Entry(code, value, next) = entry(s, l, p) else {
-        return TermRead::Refused(malformed());
-    };
+    let (code, value, next) = entry(s, l, p).ok_or(Refusal::MALFORMED)?;
     let name = named(p, value);
     match code {
-        20 => read_path(s, l, next, 2),
-        21 => TermRead::Node(TermNode::Plain, next),
-        22 => TermRead::Node(TermNode::Plain, next),
-        23 => TermRead::Node(TermNode::Plain, next),
-        24 => TermRead::Node(TermNode::Plain, next),
-        25 => read_path(s, l, next, value),
-        26 => read_path(s, l, next, value),
-        27 => TermRead::Node(TermNode::Var(name), next),
-        28 => TermRead::Node(TermNode::Plain, next),
-        29 => TermRead::Node(TermNode::Array(value), next),
-        30 => TermRead::Node(TermNode::Agg, next),
-        31 => TermRead::Node(TermNode::Arith, next),
-        32 => TermRead::Node(TermNode::ParamRef(name), next),
-        33 => TermRead::Node(TermNode::BinderRef(name), next),
-        _ => TermRead::Refused(malformed()),
+        code::ENTITY => read_path(s, l, next, 2),
+        code::INTEGER | code::DECIMAL | code::STRING | code::BOOL | code::WILDCARD => Ok((
+            TermNode::Plain,
+            next,
+        )),
+        code::CONTEXT_FIELD | code::SCOPE_FIELD => read_path(s, l, next, value),
+        code::VAR => Ok((TermNode::Var(name), next)),
+        code::ARRAY => Ok((TermNode::Array(value), next)),
+        code::AGG => Ok((TermNode::Agg, next)),
+        code::ARITH => Ok((TermNode::Arith, next)),
+        code::PARAM_REF => Ok((TermNode::ParamRef(name), next)),
+        code::BINDER_REF => Ok((TermNode::BinderRef(name), next)),
+        _ => Err(Refusal::MALFORMED),
     }
 }
 
 // A term of `count` texts.
-fn read_path(s: &[u8], l: Layout, p: Place, count: u64) -> TermRead
+#[tactic(auto, unfolding(crate::specs::Node::path_at, crate::specs::Node::refusal_of, crate::specs::Node::span_of))]
+fn read_path(s: &[u8], l: Layout, p: Place, count: u64) -> Result<(TermNode, Place), Refusal>
     ensures { result ≡ path_at s.now l p count }
 {
-    let Skipped::At(next) = past_texts(s, l, p, count) else {
-        return TermRead::Refused(malformed());
-    };
-    TermRead::Node(TermNode::Plain, next)
+    let next = past_texts(s, l, p, count).ok_or(Refusal::MALFORMED)?;
+    Ok((TermNode::Plain, next))
 }
 
-pub fn read_agg(s: &[u8], l: Layout, p: Place) -> AggRead
+#[tactic(auto, unfolding(crate::specs::Node::agg_at, crate::specs::Node::refusal_of, crate::specs::Node::span_of))]
+pub fn read_agg(s: &[u8], l: Layout, p: Place) -> Result<(AggNode, Place), Refusal>
     ensures { result ≡ agg_at s.now l p }
 {
-    let EntryRead::Entry(code, value, next) = entry(s, l, p) else {
-        return AggRead::Refused(malformed());
-    };
+    let (code, value, next) = entry(s, l, p).ok_or(Refusal::MALFORMED)?;
     match code {
-        34 => AggRead::Node(AggNode::Sum(value), next),
-        35 => AggRead::Node(AggNode::Count(value), next),
-        36 => AggRead::Node(AggNode::Call(value), next),
-        _ => AggRead::Refused(malformed()),
+        code::SUM => Ok((AggNode::Sum(value), next)),
+        code::COUNT => Ok((AggNode::Count(value), next)),
+        code::AGG_CALL => Ok((AggNode::Call(value), next)),
+        _ => Err(Refusal::MALFORMED),
     }
 }
 
-pub fn read_slot(s: &[u8], l: Layout, p: Place) -> SlotRead
+#[tactic(auto, unfolding(crate::specs::Node::slot_at, crate::specs::Node::refusal_of, crate::specs::Node::span_of))]
+pub fn read_slot(s: &[u8], l: Layout, p: Place) -> Result<(SlotNode, Place), Refusal>
     ensures { result ≡ slot_at s.now l p }
 {
-    let EntryRead::Entry(code, value, next) = entry(s, l, p) else {
-        return SlotRead::Refused(malformed());
-    };
+    let (code, value, next) = entry(s, l, p).ok_or(Refusal::MALFORMED)?;
     let name = named(p, value);
     match code {
-        43 => SlotRead::Node(SlotNode::Name(name), next),
-        44 => SlotRead::Node(SlotNode::ParamRef(name), next),
-        45 => SlotRead::Node(SlotNode::BinderRef(name), next),
-        _ => SlotRead::Refused(malformed()),
+        code::SLOT_NAME => Ok((SlotNode::Name(name), next)),
+        code::SLOT_PARAM => Ok((SlotNode::ParamRef(name), next)),
+        code::SLOT_BINDER => Ok((SlotNode::BinderRef(name), next)),
+        _ => Err(Refusal::MALFORMED),
     }
 }
 
-pub fn read_within(s: &[u8], l: Layout, p: Place) -> WithinRead
+#[tactic(auto, unfolding(crate::specs::Node::within_at, crate::specs::Node::refusal_of, crate::specs::Node::span_of))]
+pub fn read_within(s: &[u8], l: Layout, p: Place) -> Result<(WithinNode, Place), Refusal>
     ensures { result ≡ within_at s.now l p }
 {
-    let EntryRead::Entry(code, value, next) = entry(s, l, p) else {
-        return WithinRead::Refused(malformed());
-    };
+    let (code, value, next) = entry(s, l, p).ok_or(Refusal::MALFORMED)?;
     let name = named(p, value);
     match code {
-        48 => WithinRead::Node(WithinNode::Concrete, next),
-        49 => WithinRead::Node(WithinNode::Concrete, next),
-        50 => WithinRead::Node(WithinNode::Concrete, next),
-        51 => WithinRead::Node(WithinNode::Concrete, next),
-        52 => WithinRead::Node(WithinNode::ParamRef(name), next),
-        64 => WithinRead::Node(WithinNode::Concrete, next),
-        _ => WithinRead::Refused(malformed()),
+        code::SECONDS | code::MINUTES | code::HOURS | code::DAYS | code::WEEKS => Ok((
+            WithinNode::Concrete,
+            next,
+        )),
+        code::WITHIN_PARAM => Ok((WithinNode::ParamRef(name), next)),
+        _ => Err(Refusal::MALFORMED),
     }
 }
 
 // A call (54) or a definition (60): its name and its list's count.
-pub fn read_heading(s: &[u8], l: Layout, p: Place, code: u8) -> HeadingRead
+#[tactic(auto, unfolding(crate::specs::Node::heading_at, crate::specs::Node::refusal_of, crate::specs::Node::span_of))]
+pub fn read_heading(s: &[u8], l: Layout, p: Place, code: u8) -> Result<(Heading, Place), Refusal>
     ensures { result ≡ heading_at s.now l p code }
 {
-    let ValueRead::Value(span, name) = expect(s, l, p, code) else {
-        return HeadingRead::Refused(malformed());
-    };
-    let ValueRead::Value(size, list) = expect(s, l, name, 40) else {
-        return HeadingRead::Refused(malformed());
-    };
-    let ValueRead::Value(count, next) = expect(s, l, list, 41) else {
-        return HeadingRead::Refused(malformed());
-    };
-    HeadingRead::Node(
+    let (span, name) = expect(s, l, p, code).ok_or(Refusal::MALFORMED)?;
+    let (size, list) = expect(s, l, name, code::TEXT).ok_or(Refusal::MALFORMED)?;
+    let (count, next) = expect(s, l, list, code::LIST).ok_or(Refusal::MALFORMED)?;
+    Ok((
         Heading {
             span,
             name: named(name, size),
             count,
         },
         next,
-    )
+    ))
 }
 
-pub fn read_argument(s: &[u8], l: Layout, p: Place) -> ArgRead
+#[tactic(auto, unfolding(crate::specs::Node::argument_at, crate::specs::Node::refusal_of, crate::specs::Node::span_of))]
+pub fn read_argument(s: &[u8], l: Layout, p: Place) -> Result<(ArgNode, Place), Refusal>
     ensures { result ≡ argument_at s.now l p }
 {
-    let EntryRead::Entry(code, _, next) = entry(s, l, p) else {
-        return ArgRead::Refused(malformed());
-    };
+    let (code, _, next) = entry(s, l, p).ok_or(Refusal::MALFORMED)?;
     match code {
-        55 => ArgRead::Node(ArgNode::Condition, next),
-        56 => ArgRead::Node(ArgNode::Term, next),
-        57 => ArgRead::Node(ArgNode::Within, next),
-        _ => ArgRead::Refused(malformed()),
+        code::ARG_CONDITION => Ok((ArgNode::Condition, next)),
+        code::ARG_TERM => Ok((ArgNode::Term, next)),
+        code::ARG_WITHIN => Ok((ArgNode::Within, next)),
+        _ => Err(Refusal::MALFORMED),
     }
 }
 
-pub fn read_param(s: &[u8], l: Layout, p: Place) -> ParamRead
+#[tactic(auto, unfolding(crate::specs::Node::param_at))]
+pub fn read_param(s: &[u8], l: Layout, p: Place) -> Option<(Name, Place)>
     ensures { result ≡ param_at s.now l p }
 {
-    let ValueRead::Value(_, at) = expect(s, l, p, 42) else {
-        return ParamRead::Nothing;
-    };
-    let ValueRead::Value(size, next) = expect(s, l, at, 40) else {
-        return ParamRead::Nothing;
-    };
-    ParamRead::Param(
+    let (_, at) = expect(s, l, p, code::SPAN)?;
+    let (size, next) = expect(s, l, at, code::TEXT)?;
+    Some((
         Name {
             text: at.text,
             size: size as usize,
         },
         next,
-    )
+    ))
+}
+
+// The place behind a parameter: its span and its name.
+fn past_param(s: &[u8], l: Layout, p: Place) -> Option<Place>
+    ensures { result ≡ past_param_at s.now l p }
+{
+    let name = past(s, l, p, code::SPAN)?;
+    past(s, l, name, code::TEXT)
 }
 
 // The place behind `count` parameters.
-pub fn past_params(s: &[u8], l: Layout, p: Place, count: u64) -> Skipped
+#[tactic(auto, using(crate::proofs::Items::item_passed, crate::proofs::Items::item_missing, crate::proofs::Items::items_passed), unfolding(crate::specs::Node::past_params_at))]
+pub fn past_params(s: &[u8], l: Layout, p: Place, count: u64) -> Option<Place>
     ensures { result ≡ past_params_at s.now l p count }
 {
     let mut q = p;
-    let mut left = count;
-    while 0 < left {
-        let ValueRead::Value(_, name) = expect(s, l, q, 42) else {
-            return Skipped::Nowhere;
-        };
-        let ValueRead::Value(_, next) = expect(s, l, name, 40) else {
-            return Skipped::Nowhere;
-        };
-        q = next;
-        left = left - 1;
+    for _ in 0..count {
+        q = past_param(s, l, q)?;
     }
-    Skipped::At(q)
+    Some(q)
 }
 
-pub fn read_body(s: &[u8], l: Layout, p: Place) -> BodyRead
+#[tactic(auto, unfolding(crate::specs::Node::body_at, crate::specs::Node::refusal_of, crate::specs::Node::span_of))]
+pub fn read_body(s: &[u8], l: Layout, p: Place) -> Result<(BodyNode, Place), Refusal>
     ensures { result ≡ body_at s.now l p }
 {
-    let EntryRead::Entry(code, _, next) = entry(s, l, p) else {
-        return BodyRead::Refused(malformed());
-    };
+    let (code, _, next) = entry(s, l, p).ok_or(Refusal::MALFORMED)?;
     match code {
-        61 => BodyRead::Node(BodyNode::Cedar, next),
-        62 => BodyRead::Node(BodyNode::Condition, next),
-        63 => BodyRead::Node(BodyNode::Value, next),
-        _ => BodyRead::Refused(malformed()),
+        code::BODY_CEDAR => Ok((BodyNode::Cedar, next)),
+        code::BODY_CONDITION => Ok((BodyNode::Condition, next)),
+        code::BODY_VALUE => Ok((BodyNode::Value, next)),
+        _ => Err(Refusal::MALFORMED),
     }
-}
-
-// Whether two names are spelt alike.
-pub fn same_text(a: &[u8], b: &[u8]) -> bool
-    ensures { result ≡ eq_text a.now b.now }
-{
-    if a.len() != b.len() {
-        return false;
-    }
-    for i in 0..a.len() {
-        if a[i] != b[i] {
-            return false;
-        }
-    }
-    true
 }
 
 // The text that spells a name, or nothing where it runs past the slice's end.
+#[tactic(auto, unfolding(crate::specs::Node::name_at))]
 pub fn name_at(s: &[u8], l: Layout, name: Name) -> &[u8]
     ensures { result.now ≡ name_at s.now l name }
 {

@@ -1,3 +1,3 @@
 -- Laws of the operation.
-mod Roots
-mod Operation
+pub mod Roots
+pub mod Operation

@@ -1,5 +1,7 @@
 -- The older tape's answer, of a tape that was accepted and of its rewriting, is what the definition says.
 -- Assumes nothing.
+use Rattle.tape.specs.declared.header.Fault.{Fault}
+use Rattle.std.proofs.Common.{Result, Ok, Err}
 use Prim.Native.Nat.{ℕ, ◌≤◌, ◌<◌}
 use native.Mathlib.Omega.{arith}
 use mathlib.Core.Path.{◌≡◌, refl, sym, ap, ◌∙◌}
@@ -23,9 +25,8 @@ use Rattle.definition.specs.Answers.{Answer, padded, answer, number_alone, readi
 use Rattle.definition.specs.Older.{unless_out, older_of, older_tape, result_alone, older_answer}
 use Rattle.definition.specs.Outcome.{Outcome}
 use Rattle.tape.specs.Accept.{accept_of}
+use Rattle.tape.specs.Header.{fault_number}
 use Rattle.tape.specs.Ors.{ors_in}
-use Rattle.tape.specs.declared.header.Opened.{Opened}
-use Rattle.tape.specs.declared.header.Opened.TheVariants.{Tape, Refused}
 use Rattle.tape.specs.declared.layout.Layout.{Layout}
 use Rattle.tape.proofs.Located.{Inside, accepted_inside}
 use Rattle.tape.proofs.Roots.{Accepted, accepted_root}
@@ -53,23 +54,23 @@ encoded_answer n false es = refl
 module _ (s : List ℕ) (l : Layout) (before : List ℕ) {fits : Bool} {after : List ℕ} (w : (fits ≡ fits_in s l) × (after ≡ written_in s l before)) where
   pub in_written : {r : code.Answer} → fits ≡ true → answer_with r [] [] [] ≡ ended (result_alone 0) (number_alone 0)
       → AnswersOlder s l (length before) (answer_with r after [] [])
-  unfolding unless_out number_alone
+  unfolding AnswersOlder unless_out number_alone
   in_written t e room =
       let f : fits_in s l ≡ true = sym w.0 ∙ t in
       let p : after ≡ padded (length before) (older_tape_in s l) = w.1 ∙ rw f (fill before (older_tape_in s l) room) in
       rw f (result_written (λ (t : List ℕ). t) (length before) 0 0 (older_tape_in s l) 0 p e)
 
   pub in_refused : {a : Answer} → fits ≡ false → a ≡ ended (result_alone (length after)) (number_alone 52) → AnswersOlder s l (length before) a
-  unfolding unless_out ended answer number_alone
+  unfolding AnswersOlder unless_out ended answer number_alone
   in_refused t e room =
       let f : fits_in s l ≡ false = sym w.0 ∙ t in
       let p : after ≡ before = w.1 ∙ rw f refl in
       rw f (rw p at e)
 
-pub answered_rewritten : (s zeros : List ℕ) (l : Layout) (n : ℕ) {m : Layout} {t : List ℕ} {a : Answer}
+pub answered_rewritten : (s zeros : List ℕ) (l : Layout) (n : ℕ) {m : Layout} {t : List ℕ} (a : Answer)
     → (m ≡ rewritten_layout s l) × (t ≡ rewritten_in s l zeros) → AnswersOlder t m n a
     → AnswersOlder (rewritten_in s l zeros) (rewritten_layout s l) n a
-answered_rewritten s zeros l n p k = rw (← p.0, ← p.1) k
+answered_rewritten s zeros l n a p k = rw (← p.0, ← p.1) k
 
 -- ------------------------------------------------------------------ a short buffer, and a tape that is refused
 
@@ -78,28 +79,28 @@ unfolding older_answer
 short n s h e = ends_short encode (result_alone n) (older_tape s) (lt-leb 12296 n h) e
 
 -- the root that was asked for is the one that the first code tells
-pub sort_told : (s : List ℕ) {first sort : ℕ} {x : Opened} → first ≡ first_code s → sort ≡ sort_of (kind_of first) → accept_of s sort ≡ x
+pub sort_told : (s : List ℕ) {first sort : ℕ} {x : Result Layout Fault} → first ≡ first_code s → sort ≡ sort_of (kind_of first) → accept_of s sort ≡ x
     → accept_of s (sort_of (kind_of (first_code s))) ≡ x
 sort_told s f k e = rw (← f, ← k) e
 
 module _ (s : List ℕ) (bytes : Bytes s) where
   -- of the root that its first code tells, or of none
-  refused_of_lem : (m : ℕ) (o : Option Kind) → accept_of s (sort_of o) ≡ Refused m
+  refused_of_lem : (f : Fault) (o : Option Kind) → accept_of s (sort_of o) ≡ Err f
       → elim o as (λ x. Outcome (List Entry)) [ some k ↦ older_of (root_of k) s | none ↦ reading (read_tape s) λ es. number_alone 2 ]
-      ≡ number_alone {A = List Entry} m
+      ≡ number_alone {A = List Entry} (fault_number f)
   unfolding older_of
-  refused_of_lem m none e = go (none_answers s) e
+  refused_of_lem f none e = go (none_answers s) e
     where
-      go : {x : Opened} {y : Outcome (List Entry)} → NoRoot x y → x ≡ Refused m → y ≡ number_alone m
+      go : {x : Result Layout Fault} {y : Outcome (List Entry)} → NoRoot x y → x ≡ Err f → y ≡ number_alone (fault_number f)
       go (no_root k) e = ap number_alone cc
-  refused_of_lem m (some k) e =
+  refused_of_lem f (some k) e =
       read_rewritten (rewrites_of k) (lawful_of k) s bytes _ ∙ refused_tape (root_of k) (root_of_lem k) s _ e
 
-  pub refused : (n m : ℕ) {a : Answer} → 12296 ≤ n → accept_of s (sort_of (kind_of (first_code s))) ≡ Refused m
-      → a ≡ ended (result_alone n) (number_alone m) → a ≡ older_answer n s
+  pub refused : (n : ℕ) {f : Fault} {a : Answer} → 12296 ≤ n → accept_of s (sort_of (kind_of (first_code s))) ≡ Err f
+      → a ≡ ended (result_alone n) (number_alone (fault_number f)) → a ≡ older_answer n s
   unfolding older_answer older_tape
-  refused n m long e k =
-      ends_refused encode (result_alone n) (older_tape s) m (le-leb 12296 n long) (refused_of_lem m (kind_of (first_code s)) e) k
+  refused n {f} long e k =
+      ends_refused encode (result_alone n) (older_tape s) (fault_number f) (le-leb 12296 n long) (refused_of_lem f (kind_of (first_code s)) e) k
 
   -- ------------------------------------------------------------------ a tape that was read
 
@@ -120,7 +121,7 @@ module _ (s : List ℕ) (bytes : Bytes s) where
 
     answered : {t : List ℕ} {m : Layout} {a : Answer} → Inside t m (place 0 0) es → m.entries ≡ length es → m.size ≡ length (text_of es)
         → AnswersOlder t m n a → a ≡ older_answer n s
-    unfolding older_answer
+    unfolding AnswersOlder older_answer
     answered {t} {m} i entries size h =
         let tape : older_tape_in t m ≡ encode (older_entries es) = tape_is i entries size in
         let written : answer (λ (t : List ℕ). t) (result_alone n) (unless_out (fits_in t m) (older_tape_in t m))
@@ -136,13 +137,13 @@ module _ (s : List ℕ) (bytes : Bytes s) where
     tree : TreeOf kind
     accepted : Accepted (root_of kind) s l tree
 
-  told : {l : Layout} → accept_of s (sort_of (kind_of (first_code s))) ≡ Tape l → Told l
+  told : {l : Layout} → accept_of s (sort_of (kind_of (first_code s))) ≡ Ok l → Told l
   told {l} e = go (kind_of (first_code s)) refl e
     where
-      never : {x : Opened} {y : Outcome (List Entry)} → NoRoot x y → x ≡ Tape l → Told l
-      never (no_root m) e = absurd (let z : ◌≡◌ {A = ℕ} 0 1 = cc in omega arith)
+      never : {x : Result Layout Fault} {y : Outcome (List Entry)} → NoRoot x y → x ≡ Ok l → Told l
+      never (no_root m) e = absurd cc
 
-      go : (o : Option Kind) → kind_of (first_code s) ≡ o → accept_of s (sort_of o) ≡ Tape l → Told l
+      go : (o : Option Kind) → kind_of (first_code s) ≡ o → accept_of s (sort_of o) ≡ Ok l → Told l
       go none f e = never (none_answers s) e
       go (some k) f e =
           let x = accepted_root (root_of_lem k) s bytes l e in
@@ -155,7 +156,7 @@ module _ (s : List ℕ) (bytes : Bytes s) where
       (read_as root (rewrites_of t.kind) (lawful_of t.kind) s bytes).one_scan ∙ ap (map_reading (rewritten root)) t.accepted.reading
 
   -- without an Or it is its own rewriting
-  pub given : (n : ℕ) {l : Layout} {a : Answer} → 12296 ≤ n → accept_of s (sort_of (kind_of (first_code s))) ≡ Tape l → eqb (ors_in s l) 0 ≡ true
+  pub given : (n : ℕ) {l : Layout} {a : Answer} → 12296 ≤ n → accept_of s (sort_of (kind_of (first_code s))) ≡ Ok l → eqb (ors_in s l) 0 ≡ true
       → AnswersOlder s l n a → a ≡ older_answer n s
   given n {l} long e without h =
       let t = told e in
@@ -166,7 +167,7 @@ module _ (s : List ℕ) (bytes : Bytes s) where
       answered n long k t.first t.tree (was_read t ∙ ap Reading.accepted same) (accepted_inside (root_of_lem k) t.accepted)
       (ap (λ (m : Layout). m.entries) t.accepted.layout_is) (ap (λ (m : Layout). m.size) t.accepted.layout_is) h
 
-  pub given_or : (n : ℕ) {l : Layout} {a : Answer} → 12296 ≤ n → accept_of s (sort_of (kind_of (first_code s))) ≡ Tape l
+  pub given_or : (n : ℕ) {l : Layout} {a : Answer} → 12296 ≤ n → accept_of s (sort_of (kind_of (first_code s))) ≡ Ok l
       → AnswersOlder (rewritten_in s l (replicate 12296 0)) (rewritten_layout s l) n a → a ≡ older_answer n s
   given_or n long e h =
       let t = told e in

@@ -1,14 +1,17 @@
 -- The first code of a tape, the root that it tells, and what acceptance answers where it tells none.
 -- Assumes nothing.
-use Prim.Native.Nat.{ℕ, zero, suc, ◌+◌, ◌-◌, ◌*◌, ◌≤◌}
+use Rattle.tape.specs.declared.header.Fault.{Fault}
+use Rattle.tape.specs.declared.header.Fault.TheVariants.{Malformed, TooLarge}
+use Rattle.std.proofs.Common.{None, Result, Ok, Err}
+use Prim.Native.Nat.{ℕ, zero, suc, ◌+◌, ◌-◌, ◌*◌}
 use native.Mathlib.Omega.{arith}
-use mathlib.Core.Path.{◌≡◌, refl, sym, ◌∙◌}
+use mathlib.Core.Path.{◌≡◌, refl}
 use mathlib.Core.List.{List, [], ◌∷◌}
 use mathlib.Core.Bool.{Bool, true, false}
-use mathlib.Core.Option.{Option, none, some}
+use mathlib.Core.Option.{Option as Maybe, none, some}
 use borrow.Author.Tests.{le-leb, le-ltb}
 use lib.Dec.{leb, eqb}
-use lib.ListN.{length, get_or, take, drop, get_or-eq_default}
+use lib.ListN.{length, get_or, take, drop}
 use Rattle.format.specs.Entry.{Entry}
 use Rattle.format.specs.Limits.{fits_sizes}
 use Rattle.format.specs.Utf8.{well_texts}
@@ -19,14 +22,11 @@ use Rattle.definition.specs.Outcome.{Outcome}
 use Rattle.grammar.specs.Waits.{wait}
 use Rattle.grammar.specs.Words.{temporal_words, in_sort}
 use Rattle.tape.specs.Accept.{judged, accept_in, after_open, accept_of}
-use Rattle.tape.specs.Header.{entries_of, size_of}
+use Rattle.tape.specs.Header.{entries_of, size_of, fault_number}
 use Rattle.tape.specs.Layouts.{tape_layout, entries_at}
 use Rattle.tape.specs.Pick.{pick}
 use Rattle.tape.specs.Scan.{scan_of, starts}
-use Rattle.tape.specs.declared.header.Opened.{Opened}
-use Rattle.tape.specs.declared.header.Opened.TheVariants.{Tape, Refused}
 use Rattle.tape.specs.declared.layout.Layout.{Layout}
-use Rattle.tape.specs.declared.scan.Scanned.TheVariants.{Malformed}
 use Rattle.tape.proofs.Acceptance.{RootOf}
 use Rattle.tape.proofs.Roots.{condition_root_lem, term_root_lem, call_root_lem, definition_root_lem, registry_root_lem}
 use Rattle.older.specs.Roots.{sort_of}
@@ -45,18 +45,18 @@ root_of_lem Kind.registry = registry_root_lem
 no_code : (c : ℕ) → in_sort 0 c ≡ false
 no_code c = rw (le-ltb c 0 (omega arith), le-leb 0 c (omega arith)) refl
 
-none_scanned : (size : ℕ) (es : List Entry) → scan_of temporal_words 64 size es (wait 0 0 0 ∷ []) 0 0 false ≡ Malformed
+none_scanned : (size : ℕ) (es : List Entry) → scan_of temporal_words 64 size es (wait 0 0 0 ∷ []) 0 0 false ≡ None
 unfolding temporal_words
 none_scanned size [] = refl
 none_scanned size (e ∷ es) = rw (no_code e.code) refl
 
-none_judged : (s : List ℕ) (l : Layout) → accept_in temporal_words 64 s 0 l ≡ Refused 2
+none_judged : (s : List ℕ) (l : Layout) → accept_in temporal_words 64 s 0 l ≡ Err Malformed
 none_judged s l = go (starts s l (record { at = 0; text = 0 }) 0)
   where
     es : List Entry
     es = entries_at temporal_words s l 0 0 (l.entries - 0)
 
-    go : (b : Bool) → judged s l (pick b (scan_of temporal_words 64 l.size es (wait 0 0 0 ∷ []) 0 0 false) Malformed) ≡ Refused 2
+    go : (b : Bool) → judged s l (pick b (scan_of temporal_words 64 l.size es (wait 0 0 0 ∷ []) 0 0 false) None) ≡ Err Malformed
     go true = rw (none_scanned l.size es) refl
     go false = refl
 
@@ -70,7 +70,7 @@ sections_none n t rest = go (eqb (length rest) (9 * n + t))
     whole es true = refl
     whole es false = refl
 
-    texts : (o : Option (List Entry)) → reading {A = List Entry} {B = List Entry} (read_texts o) (λ es. number_alone 2) ≡ number_alone 2
+    texts : (o : Maybe (List Entry)) → reading {A = List Entry} {B = List Entry} (read_texts o) (λ es. number_alone 2) ≡ number_alone 2
     texts none = refl
     texts (some es) = whole es (well_texts es)
 
@@ -84,8 +84,8 @@ sections_none n t rest = go (eqb (length rest) (9 * n + t))
     go false = refl
 
 -- 2, or 3 where a size is over
-pub data NoRoot : Opened → Outcome (List Entry) → Type 0 where
-  no_root : (n : ℕ) → NoRoot (Refused n) (number_alone n)
+pub data NoRoot : Result Layout Fault → Outcome (List Entry) → Type 0 where
+  no_root : (f : Fault) → NoRoot (Err f) (number_alone (fault_number f))
 
 pub none_answers : (s : List ℕ) → NoRoot (accept_of s 0) (reading (read_tape s) (λ es. number_alone 2))
 unfolding read_tape read_sizes reading
@@ -97,22 +97,22 @@ none_answers s = long (leb 8 (length s))
     m : ℕ
     m = size_of s
 
-    sized : (b : Bool) → after_open temporal_words 64 s 0 (pick b (Tape (tape_layout n m)) (Refused 2)) ≡ Refused 2
+    sized : (b : Bool) → after_open temporal_words 64 s 0 (pick b (Ok (tape_layout n m)) (Err Malformed)) ≡ Err Malformed
     sized true = none_judged s (tape_layout n m)
     sized false = refl
 
     fits : (b : Bool)
-        → NoRoot (after_open temporal_words 64 s 0 (pick b (pick (eqb (length s) (8 + 9 * n + m)) (Tape (tape_layout n m)) (Refused 2)) (Refused 3)))
+        → NoRoot (after_open temporal_words 64 s 0 (pick b (pick (eqb (length s) (8 + 9 * n + m)) (Ok (tape_layout n m)) (Err Malformed)) (Err TooLarge)))
         (reading {A = List Entry} (elim b [ true ↦ read_sections n m (drop 8 s) | false ↦ Reading.too_large ]) (λ es. number_alone 2))
-    fits true = rw (sized (eqb (length s) (8 + 9 * n + m)), sections_none n m (drop 8 s)) (no_root 2)
-    fits false = no_root 3
+    fits true = rw (sized (eqb (length s) (8 + 9 * n + m)), sections_none n m (drop 8 s)) (no_root Malformed)
+    fits false = no_root TooLarge
 
     long : (b : Bool)
         → NoRoot
-        (after_open temporal_words 64 s 0 (pick b (pick (fits_sizes n m) (pick (eqb (length s) (8 + 9 * n + m)) (Tape (tape_layout n m)) (Refused 2)) (Refused 3)) (Refused 2)))
+        (after_open temporal_words 64 s 0 (pick b (pick (fits_sizes n m) (pick (eqb (length s) (8 + 9 * n + m)) (Ok (tape_layout n m)) (Err Malformed)) (Err TooLarge)) (Err Malformed)))
         (reading {A = List Entry} (elim b [ true ↦ read_sizes n m (drop 8 s) | false ↦ Reading.malformed ]) (λ es. number_alone 2))
     long true = fits (fits_sizes n m)
-    long false = no_root 2
+    long false = no_root Malformed
 
 -- ------------------------------------------------------------------ the first code
 
@@ -126,6 +126,3 @@ head_there (b ∷ s) (suc i) = head_there s i
 pub first_there : (s : List ℕ) → get_or s 8 0 ≡ first_code s
 unfolding first_code
 first_there s = head_there s 8
-
-pub first_past : (s : List ℕ) → length s ≤ 8 → 0 ≡ first_code s
-first_past s h = sym (get_or-eq_default s 0 {n = 8} h) ∙ first_there s

@@ -19,6 +19,6 @@ sort_of (some Kind.call) = grammar.call
 sort_of (some Kind.registry) = grammar.definitions
 
 -- a is the answer of the older tape of what stands at a layout, or of 52, in a result buffer of n bytes that has room for it
-abbrev pub AnswersOlder : List ℕ → Layout → ℕ → Answer → Type 0
+unfoldable pub AnswersOlder : List ℕ → Layout → ℕ → Answer → Type 0
 AnswersOlder s l n a =
     length (older_tape_in s l) ≤ n → a ≡ answer (λ (t : List ℕ). t) (result_alone n) (unless_out (fits_in s l) (older_tape_in s l))

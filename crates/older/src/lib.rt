@@ -10,44 +10,49 @@ ghost use Rattle.older.specs.Roots.{sort_of, AnswersOlder};
 
 use answer::{Answer, refuse_result, result_written};
 use de_morgan::{none_on, rewrite};
+use grammar::code;
 use grammar::codes::{CALL, CONDITION, DEFINITION, DEFINITIONS, TERM};
 use tape::accept::accept;
-use tape::header::Opened;
 use tape::layout::Layout;
 use weeks::write_older;
 
 // The code of the first entry, which stands behind the two sizes; 0, which is no code, in a slice that ends there.
+#[tactic(auto, using(crate::proofs::Roots::first_there))]
 fn first_code(tape: &[u8]) -> u8
     ensures { result ≡ first_code tape.now }
 {
-    if 8 < tape.len() { tape[8] } else { 0 }
+    tape.get(8).copied().unwrap_or(0)
 }
 
 // The sort of the root that a first code tells; 0, of which no code is, where it tells none.
+#[tactic(auto, unfolding(format::specs::Older::kind_of))]
 fn root_sort(code: u8) -> u64
     ensures { result ≡ sort_of (kind_of code) }
 {
     match code {
-        1..=13 => CONDITION,
-        20..=33 => TERM,
-        41 => DEFINITIONS,
-        54 => CALL,
-        60 => DEFINITION,
+        code::AND..=code::REFINE => CONDITION,
+        code::ENTITY..=code::BINDER_REF => TERM,
+        code::LIST => DEFINITIONS,
+        code::CALLED => CALL,
+        code::DEFINITION => DEFINITION,
         _ => 0,
     }
 }
 
 // The older tape of what stands at a layout, and zeros behind it; 52 if an amount leaves the range.
+#[tactic(auto, using(crate::proofs::Operation::in_written, crate::proofs::Operation::in_refused))]
 fn older_in(tape: &[u8], l: Layout, res: &mut [u8]) -> Answer
     ensures { AnswersOlder tape.now l (length res.old) (answer_with result res.new [] []) }
 {
     if write_older(tape, l, res) {
-        return result_written();
+        result_written()
+    } else {
+        refuse_result(52, res)
     }
-    refuse_result(52, res)
 }
 
 // The same of the rewritten tape, for which there is room here: most tapes have no Or.
+#[tactic(auto, using(crate::proofs::Operation::answered_rewritten))]
 fn older_rewritten(tape: &[u8], l: Layout, res: &mut [u8]) -> Answer
     ensures { AnswersOlder (rewritten_in tape.now l (replicate 12296 0)) (rewritten_layout tape.now l) (length res.old) (answer_with result res.new [] []) }
 {
@@ -57,6 +62,7 @@ fn older_rewritten(tape: &[u8], l: Layout, res: &mut [u8]) -> Answer
 }
 
 // The operation: the answer and every byte of the result buffer are what the definition says, for every slice and every buffer.
+#[tactic(auto, using(format::proofs::Accepted::bytes_all, crate::proofs::Operation::short, crate::proofs::Operation::refused, crate::proofs::Operation::given, crate::proofs::Operation::sort_told))]
 pub fn older(tape: &[u8], res: &mut [u8]) -> Answer
     ensures { answer_with result res.new [] [] ≡ older_answer (length res.old) tape.now }
 {
@@ -64,14 +70,8 @@ pub fn older(tape: &[u8], res: &mut [u8]) -> Answer
         return refuse_result(1, res);
     }
     match accept(tape, root_sort(first_code(tape))) {
-        Opened::Tape(l) => {
-            let plain = none_on(tape, l);
-            if plain {
-                older_in(tape, l, res)
-            } else {
-                older_rewritten(tape, l, res)
-            }
-        }
-        Opened::Refused(number) => refuse_result(number, res),
+        Ok(l) if none_on(tape, l) => older_in(tape, l, res),
+        Ok(l) => older_rewritten(tape, l, res),
+        Err(fault) => refuse_result(fault.number(), res),
     }
 }

@@ -13,7 +13,7 @@ use buffer::read_size;
 use expansion::expand_lent;
 
 // The expansion's answer, and the result's entries and bytes of text, both 0 on a refusal.
-#[derive(Clone, Copy)]
+#[derive(Clone, Copy, Debug, PartialEq, Eq)]
 pub struct Previewed {
     pub answer: Answer,
     pub entries: u32,
@@ -21,6 +21,7 @@ pub struct Previewed {
 }
 
 // The sizes that a result begins with; a refusal leaves zeros there.
+#[tactic(auto, unfolding(definition::specs::Preview::sizes_only))]
 fn preview_in<'a>(
     registry: &'a [u8],
     condition: &'a [u8],
@@ -32,27 +33,25 @@ fn preview_in<'a>(
 ) -> Previewed
     ensures { preview_with result work.new message.new ≡ sizes_only (expand_answer (buffers (length res.old) (length work.old) (length message.old)) limit file registry.now condition.now) }
 {
-    let answer = expand_lent(
-        registry,
-        condition,
-        limit,
-        file,
-        res,
-        work,
-        message,
-        &mut [],
-    );
-    let entries = read_size(res, 0);
-    let text = read_size(res, 4);
     Previewed {
-        answer,
-        entries,
-        text,
+        answer: expand_lent(
+            registry,
+            condition,
+            limit,
+            file,
+            res,
+            work,
+            message,
+            &mut [],
+        ),
+        entries: read_size(res, 0),
+        text: read_size(res, 4),
     }
 }
 
 // The operation on a registry and a condition: the seven numbers and every byte of the two buffers are what the definition says, for
 // every input and all buffers.
+#[tactic(auto, using(definition::proofs::Preview::previews))]
 pub fn preview<'a>(
     registry: &'a [u8],
     condition: &'a [u8],

@@ -1,7 +1,7 @@
 -- The laws that the proofs of the crate cite, and the theorem of what the operations return.
-mod Lists
-mod Turns
+pub mod Lists
+pub mod Turns
 mod Trees
 mod Standing
-mod Operation
+pub mod Operation
 pub mod Returned

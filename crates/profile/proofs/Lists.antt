@@ -5,10 +5,13 @@ use mathlib.Core.Path.{◌≡◌, refl, sym, ap, ◌∙◌}
 use mathlib.Core.Bool.{Bool, true, false}
 use mathlib.Core.List.{List, [], ◌∷◌, ◌++◌}
 use native.Mathlib.Omega.{arith}
+use borrow.Author.Tests.{eq-eqb}
+use lib.Dec.{leb, eqb, leb→le, le→leb, eqb→eq}
+use Rattle.format.proofs.Tests.{same_test, from_true}
 use lib.ListN.{length, drop, get_or, set, replicate, length-drop, length-set}
-use lib.Seq.{drop-cons, drop-set-lt, get_or-set_same}
+use lib.Seq.{get_or-drop, drop-cons, drop-set-lt, get_or-set_same}
 use Rattle.format.specs.Limits.{is_node, weigh}
-use Rattle.profile.specs.Spans.{items_of, is_condition, ends_item, spans_after, spans_in, Moved}
+use Rattle.profile.specs.Spans.{items_of, is_condition, ends_item, spans_after, nearest, spans_in, Moved}
 use Rattle.profile.specs.declared.around.Head.{Head}
 
 -- with fewer than two numbers nothing is to come
@@ -21,6 +24,12 @@ nothing (more ∷ span ∷ list) h = absurd (omega arith)
 -- one item, and as many more
 repeated : (more count span : ℕ) (list : List ℕ) → count ≡ suc more → span ∷ (replicate more span ++ list) ≡ replicate count span ++ list
 repeated more count span list e = rw e refl
+
+second : (list : List ℕ) → get_or list 1 0 ≡ nearest (spans_in list)
+unfolding spans_in
+second [] = refl
+second (more ∷ []) = refl
+second (more ∷ span ∷ list) = refl
 
 module _ (spans : List ℕ) (top : ℕ) where
   pub none_left : length spans - top < 2 → spans_in (drop top spans) ≡ []
@@ -40,6 +49,9 @@ module _ (spans : List ℕ) (top : ℕ) where
       → spans_in (drop top spans) ≡ get_or spans (top + 1) 0 ∷ (replicate (get_or spans top 0) (get_or spans (top + 1) 0) ++ spans_in (drop (top + 2) spans))
   unfolding spans_in
   next_left h = rw (two h) refl
+
+  pub nearest_is : get_or spans (top + 1) 0 ≡ nearest (spans_in (drop top spans))
+  nearest_is = sym (get_or-drop top spans 1 0) ∙ second (drop top spans)
 
   module _ (inside : top ≤ length spans) where
     pub taken_none : length spans - top < 2 → Moved spans top top spans (drop 1 (spans_in (drop top spans))) 0
@@ -138,3 +150,7 @@ module _ (spans : List ℕ) (top : ℕ) (e : Head) {b : Bool} (is : b ≡ is_con
       let cond : is_condition e.code ≡ false = sym is ∙ f in
       let none : ends_item e.code ≡ false = sym ends ∙ g in
       record { items_are = rw (cond, none) refl; top_least = omega arith; top_most = inside }
+
+-- no amount is one of 0 at the most
+pub no_amount : (n : ℕ) → eqb n 0 ≡ leb n 0
+no_amount n = same_test (λ t. le→leb n 0 (omega (arith, eqb→eq n 0 t))) (λ t. from_true (eq-eqb n 0 (omega (arith, leb→le n 0 t))))

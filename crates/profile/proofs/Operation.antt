@@ -1,5 +1,6 @@
 -- The profile's answer, of a tape that was accepted and of its rewriting, is what the definition says.
 -- Assumes nothing.
+use Rattle.std.proofs.Common.{Ok, Err}
 use Prim.Native.Nat.{ℕ}
 use native.Mathlib.Omega.{arith}
 use mathlib.Core.Path.{◌≡◌, refl, sym, ap, ◌∙◌}
@@ -19,8 +20,9 @@ use Rattle.definition.specs.Answers.{Answer, answer, number_alone, reading, verd
 use Rattle.definition.specs.Profile.{profile, no_buffers, profile_answer}
 use Rattle.grammar.specs.Grammar as grammar
 use Rattle.tape.specs.Accept.{accept_named}
+use Rattle.tape.specs.Header.{fault_number}
+use Rattle.tape.specs.declared.header.Fault.{Fault}
 use Rattle.tape.specs.Ors.{ors_in}
-use Rattle.tape.specs.declared.header.Opened.TheVariants.{Tape, Refused}
 use Rattle.tape.specs.declared.layout.Layout.{Layout}
 use Rattle.tape.proofs.Acceptance.{RootNamed}
 use Rattle.tape.proofs.Located.{Alone}
@@ -43,10 +45,10 @@ root_81 : RootNamed 81 (named_root 81) grammar.condition
 root_81 = named_root_lem 81 refl
 
 module _ (s : List ℕ) (bytes : Bytes s) where
-  pub refused : {n : ℕ} {a : Answer} → accept_named 81 s grammar.condition ≡ Refused n → a ≡ profiled (some (refusal n 0 [])) → a ≡ profile_answer s
+  pub refused : {f : Fault} {a : Answer} → accept_named 81 s grammar.condition ≡ Err f → a ≡ profiled (some (refusal (fault_number f) 0 [])) → a ≡ profile_answer s
   unfolding profile_answer ended verdict number_alone
-  refused {n} e k =
-      let outcome : reading (read (named_root 81) s) (λ c. verdict (profile c)) ≡ number_alone n =
+  refused {f} e k =
+      let outcome : reading (read (named_root 81) s) (λ c. verdict (profile c)) ≡ number_alone (fault_number f) =
       read_rewritten (rewrites_named 81) (lawful_named 81) s bytes _ ∙ refused_tape (named_root 81) root_81 s _ e in
       k ∙ sym (ap (answer (λ (u : Unit {0}). []) no_buffers) outcome)
 
@@ -60,14 +62,14 @@ module _ (s : List ℕ) (bytes : Bytes s) where
   unfolding profile_answer reading ended named_root
   answered c e h k = k ∙ rw (e, profile_stands c h.inside h.entries_are) refl
 
-  pub given : {l : Layout} {a : Answer} → accept_named 81 s grammar.condition ≡ Tape l → eqb (ors_in s l) 0 ≡ true → a ≡ profiled (profile_in s l)
+  pub given : {l : Layout} {a : Answer} → accept_named 81 s grammar.condition ≡ Ok l → eqb (ors_in s l) 0 ≡ true → a ≡ profiled (profile_in s l)
       → a ≡ profile_answer s
   given {l} e none k =
       let x = accepted_root root_81 s bytes l e in
       answered (rewritten (named_root 81) x.0) (was_read x.1)
       (given_alone root_81 (rewrites_named 81) x.1 (eqb→eq (ors_in s l) 0 (from_true none))) k
 
-  pub given_or : {l : Layout} {a : Answer} → accept_named 81 s grammar.condition ≡ Tape l
+  pub given_or : {l : Layout} {a : Answer} → accept_named 81 s grammar.condition ≡ Ok l
       → a ≡ profiled (profile_in (rewritten_in s l (replicate 12296 0)) (rewritten_layout s l)) → a ≡ profile_answer s
   given_or {l} e k =
       let x = accepted_root root_81 s bytes l e in

@@ -5,7 +5,7 @@ use mathlib.Core.Path.{◌≡◌, refl, sym, ◌∙◌}
 use mathlib.Core.Bool.{Bool, true, false, not, ◌&&◌}
 use mathlib.Core.List.{List, [], ◌∷◌, ◌++◌, append-nil, append_assoc}
 use native.Mathlib.Omega.{arith}
-use lib.Dec.{leb, eqb}
+use lib.Dec.{leb}
 use lib.ListN.{replicate}
 use Rattle.format.specs.Entry.{Text, Entry, entry, text_entry}
 use Rattle.format.specs.Ast.{TimeUnit, Interval, WithinSpec, BinderSlot, BinderType, Sigil, Condition, Term, Call, CallArg, CallArgs, NamedArgs, Terms}
@@ -14,7 +14,9 @@ use Rattle.format.specs.Limits.{is_node, weigh}
 use Rattle.definition.specs.Check.{Verdict, ◌and_then◌}
 use Rattle.definition.specs.Profile.{Placed, under, place_condition, place_term, place_call, place_arg, place_args, place_fields, place_terms, is_aggregate, not_past, within_day, rule, profile_from, profile}
 use Rattle.tape.specs.Pick.{pick}
-use Rattle.profile.specs.Entries.{broken_by, broken_rule, profile_heads}
+use Rattle.std.proofs.Common.{Some, None}
+use Rattle.profile.specs.declared.rules.Rule.TheVariants.{NoAggregate, SixteenNodes, WithinDay}
+use Rattle.profile.specs.Entries.{broken_by, broken_rule, unless_broken, profile_heads}
 use Rattle.profile.specs.Spans.{items_of, is_condition, ends_item, spans_after, nearest}
 use Rattle.profile.specs.declared.around.Head.{Head}
 
@@ -41,7 +43,7 @@ record Agrees (spans : List ℕ) (es : List Entry) (ps : List Placed) : Type 0 w
   from : (nodes : ℕ) → profile_heads nodes spans (heads_of es) ≡ profile_from nodes ps
 
 rules : (a b w : Bool) (span : ℕ) (spans : List ℕ) {v u : Verdict} → (w ≡ false → nearest spans ≡ span) → v ≡ u
-    → pick (eqb (pick a 53 (pick b 54 (pick (not w) 55 0))) 0) v (broken_rule (pick a 53 (pick b 54 (pick (not w) 55 0))) spans)
+    → unless_broken (pick a (Some NoAggregate) (pick b (Some SixteenNodes) (pick (not w) (Some WithinDay) None))) spans v
     ≡ (rule a 53 0 and_then rule b 54 0 and_then rule (not w) 55 span and_then u)
 unfolding broken_rule rule ◌and_then◌
 rules true b w span spans q e = refl

@@ -1,17 +1,21 @@
 -- A turn of the loop over the entries of a layout.
 -- Assumes nothing.
 use Prim.Native.Nat.{ℕ, suc, ◌+◌, ◌-◌, ◌*◌, ◌≤◌, ◌<◌}
-use mathlib.Core.Path.{◌≡◌, refl, sym, ◌∙◌}
+use mathlib.Core.Path.{◌≡◌, refl, sym, ap, ◌∙◌}
 use mathlib.Core.Bool.{Bool, true, false, not, ◌&&◌}
 use mathlib.Core.List.{List, [], ◌∷◌}
 use mathlib.Core.Option.{none, some}
+use Rattle.std.proofs.Common.{Option, Some, None}
+use Rattle.profile.specs.declared.rules.Rule.{Rule}
+use Rattle.profile.specs.declared.rules.Rule.TheVariants.{NoAggregate, SixteenNodes, WithinDay}
 use native.Mathlib.Omega.{arith}
-use borrow.Author.Tests.{eq-eqb, ne_eqb, leb-false}
+use borrow.Author.Tests.{leb-false}
 use lib.Dec.{leb, eqb}
 use Rattle.format.specs.Entry.{entry}
 use Rattle.format.specs.Limits.{is_node, weigh}
 use Rattle.definition.specs.Outcome.{refusal, open_outcome}
-use Rattle.definition.specs.Answers.{open_answers}
+use Rattle.definition.specs.Answers.{Answer, open_answers}
+use Rattle.definition.specs.Check.{Verdict}
 use Rattle.definition.specs.Profile.{within_day}
 use Rattle.tape.specs.Layouts.{holds}
 use Rattle.tape.specs.Pick.{pick}
@@ -29,28 +33,29 @@ passes_answered = refl
 
 -- a slice that holds the layout, or not
 module _ (s : List ℕ) (l : Layout) {b : Bool} (is : b ≡ holds s l) where
-  pub not_held : b ≡ false → none ≡ profile_in s l
+  pub not_held : {a : Answer} → a ≡ profiled (some (refusal 0 0 [])) → b ≡ false → a ≡ profiled (profile_in s l)
   unfolding profile_in
-  not_held f = let e : holds s l ≡ false = sym is ∙ f in rw e refl
+  not_held e f = let n : holds s l ≡ false = sym is ∙ f in e ∙ sym passes_answered ∙ rw n
 
   pub all_held : b ≡ true → profile_all s l ≡ profile_in s l
   unfolding profile_in
   all_held t = let e : holds s l ≡ true = sym is ∙ t in rw e refl
 
 -- an entry that breaks no rule is no seventeenth node
-pub room : (nodes : ℕ) (e : Head) → nodes ≤ 16 → broken_by nodes e ≡ 0 → nodes + weigh (is_node e.code) ≤ 16
+pub room : (nodes : ℕ) (e : Head) → nodes ≤ 16 → broken_by nodes e ≡ None → nodes + weigh (is_node e.code) ≤ 16
 unfolding broken_by weigh
 room nodes e h = go (eqb e.code 30) (is_node e.code) (leb 16 nodes) (leb-false 16 nodes)
   where
     go : (a b full : Bool) → (full ≡ false → nodes < 16)
-        → ◌≡◌ {A = ℕ} (pick a 53 (pick (b && full) 54 (pick (not (within_day (entry e.code e.value))) 55 0))) 0 → nodes + weigh b ≤ 16
-    go true b full q k = absurd (omega arith)
-    go false true true q k = absurd (omega arith)
+        → pick a (Some NoAggregate) (pick (b && full) (Some SixteenNodes) (pick (not (within_day (entry e.code e.value))) (Some WithinDay) None)) ≡ None
+        → nodes + weigh b ≤ 16
+    go true b full q k = absurd cc
+    go false true true q k = absurd cc
     go false true false q k = omega (arith, q refl)
     go false false full q k = omega arith
 
 -- nor one for whose items there is no room
-pub deep_enough : (nodes top : ℕ) (e : Head) → nodes ≤ 16 → 34 ≤ top + 2 * nodes + 2 → broken_by nodes e ≡ 0 → is_condition e.code ≡ true → 2 ≤ top
+pub deep_enough : (nodes top : ℕ) (e : Head) → nodes ≤ 16 → 34 ≤ top + 2 * nodes + 2 → broken_by nodes e ≡ None → is_condition e.code ≡ true → 2 ≤ top
 unfolding weigh
 deep_enough nodes top e h k q c =
     let node : weigh (is_node e.code) ≡ 1 = rw (condition_node e.code c) refl in
@@ -65,17 +70,30 @@ module _ (s : List ℕ) (l : Layout) (i n : ℕ) where
   unfolding heads_at profile_heads
   no_more nodes spans h = let e : n - i ≡ 0 = omega arith in rw e refl
 
-  module _ (nodes : ℕ) (spans : List ℕ) {e : Head} {number : ℕ} (h : i < n) (head : e ≡ head_at s l i) (rule : number ≡ broken_by nodes e) where
-    pub goes_on : {nodes' : ℕ} {spans' : List ℕ} → number ≡ 0 → nodes' ≡ nodes + weigh (is_node e.code) → spans' ≡ spans_after e spans
+  module _ (nodes : ℕ) (spans : List ℕ) {e : Head} {broken : Option Rule} (h : i < n) (head : e ≡ head_at s l i) (rule : broken ≡ broken_by nodes e) where
+    pub goes_on : {nodes' : ℕ} {spans' : List ℕ} → broken ≡ None → nodes' ≡ nodes + weigh (is_node e.code) → spans' ≡ spans_after e spans
         → profile_heads nodes' spans' (heads_at s l (i + 1) (n - (i + 1))) ≡ profile_heads nodes spans (heads_at s l i (n - i))
     unfolding profile_heads
     goes_on z p q =
-        let kept : eqb (broken_by nodes (head_at s l i)) 0 ≡ true = eq-eqb (broken_by nodes (head_at s l i)) 0 (rw (← head) (sym rule ∙ z)) in
+        let kept : broken_by nodes (head_at s l i) ≡ None = rw (← head) (sym rule ∙ z) in
         rw (heads_step h, kept, p, q, head) refl
 
-    pub stops : (number ≡ 0 → ⊥) → broken_rule number spans ≡ profile_heads nodes spans (heads_at s l i (n - i))
+    pub stops : {r : Rule} → broken ≡ Some r → broken_rule r spans ≡ profile_heads nodes spans (heads_at s l i (n - i))
     unfolding profile_heads
-    stops z =
-        let is : number ≡ broken_by nodes (head_at s l i) = rw (← head) rule in
-        let broken : eqb (broken_by nodes (head_at s l i)) 0 ≡ false = ne_eqb (broken_by nodes (head_at s l i)) 0 (λ k. z (is ∙ k)) in
-        rw (heads_step h, broken, is) refl
+    stops {r} z =
+        let is : broken_by nodes (head_at s l i) ≡ Some r = rw (← head) (sym rule ∙ z) in
+        rw (heads_step h, is) refl
+
+  -- what the loop hands on, and what it answers
+  module _ (nodes : ℕ) (spans : List ℕ) {v : Verdict} (left : profile_heads nodes spans (heads_at s l i (n - i)) ≡ v) where
+    pub went_on : {e : Head} {broken : Option Rule} {nodes' : ℕ} {spans' : List ℕ} → e ≡ head_at s l i → broken ≡ broken_by nodes e → broken ≡ None
+        → nodes' ≡ nodes + weigh (is_node e.code) → spans' ≡ spans_after e spans → i < n
+        → profile_heads nodes' spans' (heads_at s l (i + 1) (n - (i + 1))) ≡ v
+    went_on head rule z p q h = goes_on nodes spans h head rule z p q ∙ left
+
+    pub stopped : {a : Answer} {e : Head} {broken : Option Rule} {r : Rule} → e ≡ head_at s l i → broken ≡ broken_by nodes e → broken ≡ Some r
+        → a ≡ profiled (broken_rule r spans) → i < n → a ≡ profiled v
+    stopped head rule z is h = is ∙ ap profiled (stops nodes spans h head rule z ∙ left)
+
+    pub ended_well : {a : Answer} → a ≡ profiled (some (refusal 0 0 [])) → n ≤ i → a ≡ profiled v
+    ended_well is h = is ∙ sym passes_answered ∙ ap profiled (no_more nodes spans h ∙ left)

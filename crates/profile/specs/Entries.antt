@@ -1,7 +1,7 @@
 -- The first broken rule among the entries of a layout: the definition's `profile_from` (definition/specs/Profile.antt), with the spans that
 -- it has from the tree taken from the list of what is still to come.
 -- Assumes nothing.
-use Rattle.std.specs.Prelude.{ℕ, zero, suc, ◌+◌, List, [], ◌∷◌, not, ◌&&◌, leb, ltb, eqb}
+use Rattle.std.specs.Prelude.{ℕ, zero, suc, ◌+◌, List, [], ◌∷◌, not, ◌&&◌, leb, ltb, eqb, Option, Some, None}
 use Rattle.std.proofs.Math.Option.{none, some}
 use Rattle.format.specs.Entry.{entry}
 use Rattle.format.specs.Limits.{is_node, weigh}
@@ -15,6 +15,8 @@ use Rattle.tape.specs.declared.layout.Layout.{Layout}
 use Rattle.answer.specs.Matches.{ended}
 use Rattle.profile.specs.Spans.{nearest, spans_after}
 use Rattle.profile.specs.declared.around.Head.{Head}
+use Rattle.profile.specs.declared.rules.Rule.{Rule}
+use Rattle.profile.specs.declared.rules.Rule.TheVariants.{NoAggregate, SixteenNodes, WithinDay}
 
 -- how many arguments a call has whose 11 is entry `at`: the value of its 41, the third entry behind
 unfoldable pub args_at : List ℕ → Layout → ℕ → ℕ
@@ -28,22 +30,27 @@ unfoldable pub heads_at : List ℕ → Layout → ℕ → ℕ → List Head
 heads_at s l i zero = []
 heads_at s l i (suc n) = head_at s l i ∷ heads_at s l (i + 1) n
 
--- the number of the rule that an entry breaks, the lowest one, or 0; `nodes` were met before
-unfoldable pub broken_by : (nodes : ℕ) → Head → ℕ
+-- the rule that an entry breaks, the first of them; `nodes` were met before
+unfoldable pub broken_by : (nodes : ℕ) → Head → Option Rule
 broken_by nodes e =
-    pick (eqb e.code 30) 53
-    (pick (is_node e.code && leb 16 nodes) 54 (pick (not (within_day (entry e.code e.value))) 55 0))
+    pick (eqb e.code 30) (Some NoAggregate)
+    (pick (is_node e.code && leb 16 nodes) (Some SixteenNodes) (pick (not (within_day (entry e.code e.value))) (Some WithinDay) None))
 
 -- the refusal of a broken rule, of which an interval's has a span
-unfoldable pub broken_rule : (number : ℕ) → (spans : List ℕ) → Verdict
-broken_rule number spans = some (refusal number (pick (eqb number 55) (nearest spans) 0) [])
+unfoldable pub broken_rule : Rule → (spans : List ℕ) → Verdict
+broken_rule NoAggregate spans = some (refusal 53 0 [])
+broken_rule SixteenNodes spans = some (refusal 54 0 [])
+broken_rule WithinDay spans = some (refusal 55 (nearest spans) [])
+
+-- the refusal of the rule, if one is broken, or else what follows
+abbrev pub unless_broken : Option Rule → (spans : List ℕ) → Verdict → Verdict
+unless_broken None spans v = v
+unless_broken (Some rule) spans v = broken_rule rule spans
 
 unfoldable pub profile_heads : (nodes : ℕ) → (spans : List ℕ) → List Head → Verdict
 profile_heads nodes spans [] = none
 profile_heads nodes spans (e ∷ es) =
-    pick (eqb (broken_by nodes e) 0)
-    (profile_heads (nodes + weigh (is_node e.code)) (spans_after e spans) es)
-    (broken_rule (broken_by nodes e) spans)
+    unless_broken (broken_by nodes e) spans (profile_heads (nodes + weigh (is_node e.code)) (spans_after e spans) es)
 
 -- the entries of a layout; one item is to come, the whole, and no condition is around it
 abbrev pub profile_all : List ℕ → Layout → Verdict

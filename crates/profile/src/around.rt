@@ -5,8 +5,10 @@ ghost use Rattle.std.specs.Prelude.{◌≡◌, true, ◌++◌, ◌*◌, ◌≤�
 ghost use Rattle.format.specs.Limits.{is_node, weigh};
 ghost use Rattle.profile.specs.Spans.{items_of, is_condition, ends_item, spans_after, nearest, spans_in, Moved};
 
+use grammar::code;
+
 // An entry's code and value, and how many arguments a call has whose 11 it is.
-#[derive(Clone, Copy)]
+#[derive(Clone, Copy, Debug, PartialEq, Eq)]
 pub struct Head {
     pub code: u8,
     pub value: u64,
@@ -14,60 +16,54 @@ pub struct Head {
 }
 
 // How many items a condition has.
+#[tactic(auto, unfolding(crate::specs::Spans::items_of))]
 fn items_of(code: u8, args: u64) -> u64
     ensures { result ≡ items_of code args }
 {
     match code {
-        1 => 2,
-        2 => 2,
-        3 => 1,
-        4 => 2,
-        5 => 2,
-        6 => 3,
-        9 => 1,
-        11 => args,
-        13 => 1,
+        code::AND | code::OR | code::FORMERLY | code::PREVIOUS => 2,
+        code::NOT | code::EXISTS | code::REFINE => 1,
+        code::SINCE => 3,
+        code::CALL => args,
         _ => 0,
     }
 }
 
+#[tactic(auto, unfolding(crate::specs::Spans::is_condition))]
 fn is_condition(code: u8) -> bool
     ensures { result ≡ is_condition code }
 {
-    match code {
-        1..=13 => true,
-        _ => false,
-    }
+    matches!(code, code::AND..=code::REFINE)
 }
 
 // Whether an entry is an item that has none in it: an interval, a parameter in the place of one, or a term as argument.
+#[tactic(auto, unfolding(crate::specs::Spans::ends_item))]
 fn ends_item(code: u8) -> bool
     ensures { result ≡ ends_item code }
 {
-    match code {
-        48 => true,
-        49 => true,
-        50 => true,
-        51 => true,
-        52 => true,
-        56 => true,
-        64 => true,
-        _ => false,
-    }
+    matches!(
+        code,
+        code::SECONDS
+            | code::MINUTES
+            | code::HOURS
+            | code::DAYS
+            | code::WEEKS
+            | code::WITHIN_PARAM
+            | code::ARG_TERM
+    )
 }
 
 // The span of the condition that the next item is in; 0 for the whole.
+#[tactic(auto, using(crate::proofs::Lists::nearest_is))]
 pub fn nearest(spans: &[u64], top: usize) -> u64
     requires { top ≤ length spans.now }
     ensures { result ≡ nearest (spans_in (drop top spans.now)) }
 {
-    if spans.len() - top < 2 {
-        return 0;
-    }
-    spans[top + 1]
+    spans.get(top + 1).copied().unwrap_or(0)
 }
 
 // The next item is no more to come.
+#[tactic(auto, using(crate::proofs::Lists::taken_none, crate::proofs::Lists::taken_last, crate::proofs::Lists::taken_one))]
 fn take_item(spans: &mut [u64], top: usize) -> usize
     requires { top ≤ length spans.old }
     ensures { Moved spans.old top result spans.new (drop 1 (spans_in (drop top spans.old))) 0 }
@@ -75,15 +71,15 @@ fn take_item(spans: &mut [u64], top: usize) -> usize
     if spans.len() - top < 2 {
         return top;
     }
-    let more = spans[top];
-    if more == 0 {
+    if spans[top] == 0 {
         return top + 2;
     }
-    spans[top] = more - 1;
+    spans[top] -= 1;
     top
 }
 
 // The items of a condition come next.
+#[tactic(auto, using(crate::proofs::Lists::added_none, crate::proofs::Lists::added_some))]
 fn add_items(spans: &mut [u64], top: usize, count: u64, span: u64) -> usize
     requires { (2 ≤ top) × (top ≤ length spans.old) }
     ensures { Moved spans.old top result spans.new (replicate count span ++ spans_in (drop top spans.old)) 2 }
@@ -97,16 +93,17 @@ fn add_items(spans: &mut [u64], top: usize, count: u64, span: u64) -> usize
 }
 
 // What is still to come behind an entry: an argument's 55 or 57 leaves its item to what it holds.
+#[tactic(auto, using(crate::proofs::Lists::passed_end, crate::proofs::Lists::passed_other))]
 pub fn pass_entry(spans: &mut [u64], top: usize, e: Head) -> usize
     requires { (is_condition e.code ≡ true → 2 ≤ top) × (top ≤ length spans.old) }
     ensures { Moved spans.old top result spans.new (spans_after e (spans_in (drop top spans.old))) (2 * weigh (is_node e.code)) }
 {
     if is_condition(e.code) {
         let next = take_item(spans, top);
-        return add_items(spans, next, items_of(e.code, e.args), e.value);
+        add_items(spans, next, items_of(e.code, e.args), e.value)
+    } else if ends_item(e.code) {
+        take_item(spans, top)
+    } else {
+        top
     }
-    if ends_item(e.code) {
-        return take_item(spans, top);
-    }
-    top
 }

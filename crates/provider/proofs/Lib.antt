@@ -1,4 +1,4 @@
 -- Laws of the operations.
 mod Codes
 mod Turned
-mod Operation
+pub mod Operation

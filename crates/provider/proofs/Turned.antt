@@ -4,7 +4,9 @@ use Prim.Native.Nat.{ℕ, suc, ◌+◌}
 use mathlib.Core.Path.{◌≡◌, refl, sym, ap, ◌∙◌}
 use mathlib.Core.List.{List, [], ◌∷◌, ◌++◌, map, append_assoc}
 use mathlib.Core.Bool.{Bool, true, false, not, ◌||◌, or_assoc}
-use mathlib.Core.Option.{Option, none, some}
+use mathlib.Core.Option.{Option as Maybe, none, some}
+use Rattle.std.proofs.Common.{Some, None}
+use Rattle.std.specs.Option.{is_none as is_lost}
 use native.Mathlib.Omega.{arith}
 use lib.Dec.{eqb}
 use lib.ListN.{length, take, length-append, length-map}
@@ -23,37 +25,39 @@ use Rattle.definition.proofs.Provider.{Becomes, string, integer, decimal, bool, 
 use Rattle.definition.proofs.ProviderTapes.{become_length}
 use Rattle.tape.specs.Pick.{pick}
 use Rattle.tape.specs.declared.layout.Layout.{Layout}
-use Rattle.provider.specs.Turned.{term_code, argument_code, turned_code, any_lost, codes_in, turned_in}
+use Rattle.provider.specs.Turned.{term_code, argument_code, turned_or_0, any_lost, codes_in, turned_in}
+use Rattle.provider.specs.declared.Way.{Way}
+use Rattle.provider.specs.declared.Way.TheVariants.{ToTerm, ToArgument}
 
 -- ------------------------------------------------------------------ entries with other codes
 
-abbrev turned_entry : Bool → Entry → Entry
-turned_entry back e = record { code = turned_code back e.code; value = e.value; text = e.text }
+abbrev turned_entry : Way → Entry → Entry
+turned_entry way e = record { code = turned_or_0 way e.code; value = e.value; text = e.text }
 
-abbrev turned_entries : Bool → List Entry → List Entry
-turned_entries back [] = []
-turned_entries back (e ∷ es) = turned_entry back e ∷ turned_entries back es
+abbrev turned_entries : Way → List Entry → List Entry
+turned_entries way [] = []
+turned_entries way (e ∷ es) = turned_entry way e ∷ turned_entries way es
 
-module _ (back : Bool) where
-  turned_append : (es fs : List Entry) → turned_entries back (es ++ fs) ≡ turned_entries back es ++ turned_entries back fs
+module _ (way : Way) where
+  turned_append : (es fs : List Entry) → turned_entries way (es ++ fs) ≡ turned_entries way es ++ turned_entries way fs
   turned_append [] fs = refl
-  turned_append (e ∷ es) fs = ap (λ (l : List Entry). turned_entry back e ∷ l) (turned_append es fs)
+  turned_append (e ∷ es) fs = ap (λ (l : List Entry). turned_entry way e ∷ l) (turned_append es fs)
 
-  turned_length : (es : List Entry) → length (turned_entries back es) ≡ length es
+  turned_length : (es : List Entry) → length (turned_entries way es) ≡ length es
   turned_length [] = refl
   turned_length (e ∷ es) = ap suc (turned_length es)
 
-  turned_codes : (es : List Entry) → codes_of (turned_entries back es) ≡ map (turned_code back) (codes_of es)
+  turned_codes : (es : List Entry) → codes_of (turned_entries way es) ≡ map (turned_or_0 way) (codes_of es)
   unfolding codes_of
   turned_codes [] = refl
-  turned_codes (e ∷ es) = ap (λ (l : List ℕ). turned_code back e.code ∷ l) (turned_codes es)
+  turned_codes (e ∷ es) = ap (λ (l : List ℕ). turned_or_0 way e.code ∷ l) (turned_codes es)
 
-  turned_values : (es : List Entry) → values_of (turned_entries back es) ≡ values_of es
+  turned_values : (es : List Entry) → values_of (turned_entries way es) ≡ values_of es
   unfolding values_of
   turned_values [] = refl
   turned_values (e ∷ es) = ap (λ (l : List ℕ). le 8 e.value ++ l) (turned_values es)
 
-  turned_text : (es : List Entry) → text_of (turned_entries back es) ≡ text_of es
+  turned_text : (es : List Entry) → text_of (turned_entries way es) ≡ text_of es
   unfolding text_of
   turned_text [] = refl
   turned_text (e ∷ es) = ap (λ (l : Text). e.text ++ l) (turned_text es)
@@ -92,53 +96,53 @@ module _ (es : List Entry) where
       ∙ rw (take_at sizes (codes_of es ++ behind) 8 length_sizes, ← (append_assoc sizes (codes_of es) behind), drop_at (sizes ++ codes_of es) behind (8 + length cs) k)
       (append_assoc sizes cs behind))
 
-  pub tape_turned : (back : Bool) → sets (encode es) 8 (map (turned_code back) (codes_of es)) ≡ encode (turned_entries back es)
+  pub tape_turned : (way : Way) → sets (encode es) 8 (map (turned_or_0 way) (codes_of es)) ≡ encode (turned_entries way es)
   unfolding encode
-  tape_turned back =
-      over_codes (map (turned_code back) (codes_of es)) (length-map (codes_of es) (turned_code back) ∙ length_codes es)
-      ∙ rw (turned_length back es, turned_codes back es, turned_values back es, turned_text back es)
-      (append_assoc (le 4 (length es)) (le 4 (length (text_of es))) (map (turned_code back) (codes_of es) ++ behind))
+  tape_turned way =
+      over_codes (map (turned_or_0 way) (codes_of es)) (length-map (codes_of es) (turned_or_0 way) ∙ length_codes es)
+      ∙ rw (turned_length way es, turned_codes way es, turned_values way es, turned_text way es)
+      (append_assoc (le 4 (length es)) (le 4 (length (text_of es))) (map (turned_or_0 way) (codes_of es) ++ behind))
 
 -- ------------------------------------------------------------------ an argument and its term
 
 mutual
   unfolding flat_argument flat_term
 
-  term_entries : {a : Arg} {t : Term} → Becomes a t → turned_entries false (flat_argument a) ≡ flat_term t
+  term_entries : {a : Arg} {t : Term} → Becomes a t → turned_entries ToTerm (flat_argument a) ≡ flat_term t
   term_entries string = refl
   term_entries integer = refl
   term_entries decimal = refl
   term_entries bool = refl
   term_entries (set h) = rw (become_length h, terms_entries h) refl
 
-  terms_entries : {items : Args} {ts : Terms} → BecomeAll items ts → turned_entries false (flat_arguments items) ≡ flat_terms ts
+  terms_entries : {items : Args} {ts : Terms} → BecomeAll items ts → turned_entries ToTerm (flat_arguments items) ≡ flat_terms ts
   terms_entries no_more = refl
   terms_entries (one_more {a = a} {items = items} h k) =
-      turned_append false (flat_argument a) (flat_arguments items) ∙ rw (term_entries h, terms_entries k) refl
+      turned_append ToTerm (flat_argument a) (flat_arguments items) ∙ rw (term_entries h, terms_entries k) refl
 
 mutual
   unfolding flat_argument flat_term
 
-  argument_entries : {a : Arg} {t : Term} → Becomes a t → turned_entries true (flat_term t) ≡ flat_argument a
+  argument_entries : {a : Arg} {t : Term} → Becomes a t → turned_entries ToArgument (flat_term t) ≡ flat_argument a
   argument_entries string = refl
   argument_entries integer = refl
   argument_entries decimal = refl
   argument_entries bool = refl
   argument_entries (set h) = rw (become_length h, arguments_entries h) refl
 
-  arguments_entries : {items : Args} {ts : Terms} → BecomeAll items ts → turned_entries true (flat_terms ts) ≡ flat_arguments items
+  arguments_entries : {items : Args} {ts : Terms} → BecomeAll items ts → turned_entries ToArgument (flat_terms ts) ≡ flat_arguments items
   arguments_entries no_more = refl
   arguments_entries (one_more {t = t} {ts = ts} h k) =
-      turned_append true (flat_term t) (flat_terms ts) ∙ rw (argument_entries h, arguments_entries k) refl
+      turned_append ToArgument (flat_term t) (flat_terms ts) ∙ rw (argument_entries h, arguments_entries k) refl
 
 -- ------------------------------------------------------------------ codes that become none
 
 -- no argument becomes what argument_code has no code for
-lost_code : (c : ℕ) → eqb (argument_code c) 0 ≡ is_foreign c
+lost_code : (c : ℕ) → is_lost (argument_code c) ≡ is_foreign c
 unfolding is_foreign is_code
 lost_code c = go (eqb c 21) (eqb c 22) (eqb c 23) (eqb c 24) (eqb c 29)
   where
-    go : (v w x y z : Bool) → eqb (pick v 73 (pick w 74 (pick x 72 (pick y 75 (pick z 76 0))))) 0 ≡ not (v || (w || (x || (y || (z || false)))))
+    go : (v w x y z : Bool) → is_lost {T = ℕ} (pick v (Some 73) (pick w (Some 74) (pick x (Some 72) (pick y (Some 75) (pick z (Some 76) None))))) ≡ not (v || (w || (x || (y || (z || false)))))
     go true w x y z = refl
     go false true x y z = refl
     go false false true y z = refl
@@ -146,17 +150,17 @@ lost_code c = go (eqb c 21) (eqb c 22) (eqb c 23) (eqb c 24) (eqb c 29)
     go false false false false true = refl
     go false false false false false = refl
 
-lost_foreign : (es : List Entry) → any_lost true (codes_of es) ≡ any_code is_foreign es
+lost_foreign : (es : List Entry) → any_lost ToArgument (codes_of es) ≡ any_code is_foreign es
 unfolding codes_of any_code
 lost_foreign [] = refl
 lost_foreign (e ∷ es) = rw (lost_code e.code, lost_foreign es) refl
 
-lost_append : (es fs : List Entry) → any_lost false (codes_of (es ++ fs)) ≡ (any_lost false (codes_of es) || any_lost false (codes_of fs))
+lost_append : (es fs : List Entry) → any_lost ToTerm (codes_of (es ++ fs)) ≡ (any_lost ToTerm (codes_of es) || any_lost ToTerm (codes_of fs))
 unfolding codes_of
 lost_append [] fs = refl
 lost_append (e ∷ es) fs =
-    let b = eqb (term_code e.code) 0 in
-    ap (λ (x : Bool). b || x) (lost_append es fs) ∙ sym (or_assoc b (any_lost false (codes_of es)) (any_lost false (codes_of fs)))
+    let b = is_lost (term_code e.code) in
+    ap (λ (x : Bool). b || x) (lost_append es fs) ∙ sym (or_assoc b (any_lost ToTerm (codes_of es)) (any_lost ToTerm (codes_of fs)))
 
 field_append : (es fs : List Entry) → any_code is_field (es ++ fs) ≡ (any_code is_field es || any_code is_field fs)
 unfolding any_code
@@ -167,7 +171,7 @@ field_append (e ∷ es) fs =
 mutual
   unfolding flat_argument codes_of any_code is_field is_code
 
-  lost_fields : (a : Arg) → any_lost false (codes_of (flat_argument a)) ≡ any_code is_field (flat_argument a)
+  lost_fields : (a : Arg) → any_lost ToTerm (codes_of (flat_argument a)) ≡ any_code is_field (flat_argument a)
   lost_fields (Arg.Field path) = refl
   lost_fields (Arg.String t) = refl
   lost_fields (Arg.Integer n) = refl
@@ -175,7 +179,7 @@ mutual
   lost_fields (Arg.Bool b) = refl
   lost_fields (Arg.Set items) = lost_all items
 
-  lost_all : (items : Args) → any_lost false (codes_of (flat_arguments items)) ≡ any_code is_field (flat_arguments items)
+  lost_all : (items : Args) → any_lost ToTerm (codes_of (flat_arguments items)) ≡ any_code is_field (flat_arguments items)
   lost_all Args.no_args = refl
   lost_all (Args.cons_arg a rest) =
       lost_append (flat_argument a) (flat_arguments rest)
@@ -183,27 +187,27 @@ mutual
 
 -- ------------------------------------------------------------------ a tape turned is the tape of what its tree is turned into
 
-module _ {A B : Type 0} (back : Bool) (from : A → List Entry) (into : B → List Entry) (f : A → Option B)
-    (lost : (a : A) → any_lost back (codes_of (from a)) ≡ is_none (f a))
-    (same : (a : A) (b : B) → f a ≡ some b → turned_entries back (from a) ≡ into b) where
+module _ {A B : Type 0} (way : Way) (from : A → List Entry) (into : B → List Entry) (f : A → Maybe B)
+    (lost : (a : A) → any_lost way (codes_of (from a)) ≡ is_none (f a))
+    (same : (a : A) (b : B) → f a ≡ some b → turned_entries way (from a) ≡ into b) where
   turned_tree : (a : A) (l : Layout) → l.codes ≡ 8 → l.entries ≡ length (from a)
-      → turned_in back (encode (from a)) l ≡ turn (λ (b : B). encode (into b)) (f a)
+      → turned_in way (encode (from a)) l ≡ turn (λ (b : B). encode (into b)) (f a)
   unfolding turn is_none
   turned_tree a l at count =
       let c : codes_in (encode (from a)) l ≡ codes_of (from a) = rw (at, count) (codes_stand (from a)) in
       rw (c, lost a) (go (f a) refl)
     where
-      go : (o : Option B) → f a ≡ o
-          → pick (is_none o) none (some (sets (encode (from a)) 8 (map (turned_code back) (codes_of (from a))))) ≡ turn (λ (b : B). encode (into b)) o
+      go : (o : Maybe B) → f a ≡ o
+          → pick (is_none o) none (some (sets (encode (from a)) 8 (map (turned_or_0 way) (codes_of (from a))))) ≡ turn (λ (b : B). encode (into b)) o
       go none e = refl
-      go (some b) e = ap some (tape_turned (from a) back ∙ ap encode (same a b e))
+      go (some b) e = ap some (tape_turned (from a) way ∙ ap encode (same a b e))
 
 pub argument_turned : (a : Arg) (l : Layout) → l.codes ≡ 8 → l.entries ≡ length (flat_argument a)
-    → turned_in false (encode (flat_argument a)) l ≡ turn (λ (t : Term). encode (flat_term t)) (argument_to_term a)
+    → turned_in ToTerm (encode (flat_argument a)) l ≡ turn (λ (t : Term). encode (flat_term t)) (argument_to_term a)
 argument_turned =
-    turned_tree false flat_argument flat_term argument_to_term (λ a. lost_fields a ∙ sym (fields_only a)) (λ a t e. term_entries (becomes a t e))
+    turned_tree ToTerm flat_argument flat_term argument_to_term (λ a. lost_fields a ∙ sym (fields_only a)) (λ a t e. term_entries (becomes a t e))
 
 pub term_turned : (t : Term) (l : Layout) → l.codes ≡ 8 → l.entries ≡ length (flat_term t)
-    → turned_in true (encode (flat_term t)) l ≡ turn (λ (a : Arg). encode (flat_argument a)) (term_to_argument t)
+    → turned_in ToArgument (encode (flat_term t)) l ≡ turn (λ (a : Arg). encode (flat_argument a)) (term_to_argument t)
 term_turned =
-    turned_tree true flat_term flat_argument term_to_argument (λ t. lost_foreign (flat_term t) ∙ sym (foreign_only t)) (λ t a e. argument_entries (became a t e))
+    turned_tree ToArgument flat_term flat_argument term_to_argument (λ t. lost_foreign (flat_term t) ∙ sym (foreign_only t)) (λ t a e. argument_entries (became a t e))

@@ -7,63 +7,71 @@ ghost use Rattle.definition.specs.Provider.{provider_answer, argument_to_term_an
 ghost use Rattle.grammar.specs.Words.{provider_words};
 ghost use Rattle.tape.specs.Accept.{accept_by};
 ghost use Rattle.answer.specs.Matches.{answer_with};
-ghost use Rattle.provider.specs.Turned.{term_code, argument_code, turned_code, any_lost, turned_on, AnswersTurned};
+ghost use Rattle.provider.specs.Turned.{term_code, argument_code, turned_code, turned_or_0, any_lost, turned_on, AnswersTurned};
 
 use answer::{Answer, refuse_result, result_written};
 use buffer::{write, zero_from};
+use grammar::code;
 use grammar::codes::TERM;
 use grammar::provider::{ARGUMENT, ROOT, table};
 use tape::accept::{accept, accept_by};
-use tape::header::Opened;
+use tape::header::Fault;
 use tape::layout::Layout;
 use tape::part::part_of;
 
-// The code of the term that an argument of a code becomes; 0, which is no code, where there is none.
-fn term_code(code: u8) -> u8
+mod argument;
+
+// Which of the two a tape's codes become.
+#[derive(Clone, Copy, Debug, PartialEq, Eq)]
+enum Way {
+    ToTerm,
+    ToArgument,
+}
+
+// The code of the term that an argument of a code becomes, if there is one.
+fn term_code(code: u8) -> Option<u8>
     ensures { result ≡ term_code code }
 {
     match code {
-        72 => 23,
-        73 => 21,
-        74 => 22,
-        75 => 24,
-        76 => 29,
-        _ => 0,
+        argument::STRING => Some(code::STRING),
+        argument::INTEGER => Some(code::INTEGER),
+        argument::DECIMAL => Some(code::DECIMAL),
+        argument::BOOL => Some(code::BOOL),
+        argument::SET => Some(code::ARRAY),
+        _ => None,
     }
 }
 
 // And back.
-fn argument_code(code: u8) -> u8
+fn argument_code(code: u8) -> Option<u8>
     ensures { result ≡ argument_code code }
 {
     match code {
-        21 => 73,
-        22 => 74,
-        23 => 72,
-        24 => 75,
-        29 => 76,
-        _ => 0,
+        code::INTEGER => Some(argument::INTEGER),
+        code::DECIMAL => Some(argument::DECIMAL),
+        code::STRING => Some(argument::STRING),
+        code::BOOL => Some(argument::BOOL),
+        code::ARRAY => Some(argument::SET),
+        _ => None,
     }
 }
 
 // The one or the other.
-fn turned_code(back: bool, code: u8) -> u8
-    ensures { result ≡ turned_code back code }
+fn turned_code(way: Way, code: u8) -> Option<u8>
+    ensures { result ≡ turned_code way code }
 {
-    if back {
-        argument_code(code)
-    } else {
-        term_code(code)
+    match way {
+        Way::ToTerm => term_code(code),
+        Way::ToArgument => argument_code(code),
     }
 }
 
 // Whether one of the codes becomes none.
-fn any_lost(back: bool, codes: &[u8]) -> bool
-    ensures { result ≡ any_lost back codes.now }
+fn any_lost(way: Way, codes: &[u8]) -> bool
+    ensures { result ≡ any_lost way codes.now }
 {
-    let n = codes.len();
-    for i in 0..n {
-        if turned_code(back, codes[i]) == 0 {
+    for code in codes {
+        if turned_code(way, *code).is_none() {
             return true;
         }
     }
@@ -71,39 +79,39 @@ fn any_lost(back: bool, codes: &[u8]) -> bool
 }
 
 // Writes what the codes become where a tape has its codes: behind the two sizes.
-fn write_codes(back: bool, codes: &[u8], res: &mut [u8])
-    ensures { res.new ≡ sets res.old 8 (map (turned_code back) codes.now) }
+fn write_codes(way: Way, codes: &[u8], res: &mut [u8])
+    ensures { res.new ≡ sets res.old 8 (map (turned_or_0 way) codes.now) }
 {
-    let n = codes.len();
-    for i in 0..n {
-        let code = turned_code(back, codes[i]);
+    for i in 0..codes.len() {
+        let code = turned_code(way, codes[i]).unwrap_or(0);
         write(res, 8 + i, &[code]);
     }
 }
 
 // Writes the tape with its codes turned, every value and the text as they are, and zeros behind it.
-fn write_turned(back: bool, tape: &[u8], codes: &[u8], res: &mut [u8])
-    ensures { res.new ≡ turned_on res.old tape.now (map (turned_code back) codes.now) }
+fn write_turned(way: Way, tape: &[u8], codes: &[u8], res: &mut [u8])
+    ensures { res.new ≡ turned_on res.old tape.now (map (turned_or_0 way) codes.now) }
 {
     write(res, 0, tape);
     zero_from(res, tape.len());
-    write_codes(back, codes, res);
+    write_codes(way, codes, res);
 }
 
 // The answer of a tape turned; or a number, where one of its codes becomes none.
-fn turn(back: bool, number: u32, tape: &[u8], l: Layout, res: &mut [u8]) -> Answer
-    ensures { AnswersTurned back number tape.now l (length res.old) (answer_with result res.new [] []) }
+#[tactic(auto, using(crate::proofs::Operation::in_lost, crate::proofs::Operation::in_turned))]
+fn turn(way: Way, number: u32, tape: &[u8], l: Layout, res: &mut [u8]) -> Answer
+    ensures { AnswersTurned way number tape.now l (length res.old) (answer_with result res.new [] []) }
 {
     let codes = part_of(tape, l.codes, l.entries);
-    if any_lost(back, codes) {
+    if any_lost(way, codes) {
         return refuse_result(number, res);
     }
-    write_turned(back, tape, codes, res);
+    write_turned(way, tape, codes, res);
     result_written()
 }
 
 // The acceptance of a provider tape whose root is of a sort. The longest text has 64 bytes, or 255.
-fn accept_provider(tape: &[u8], sort: u64) -> Opened
+fn accept_provider(tape: &[u8], sort: u64) -> Result<Layout, Fault>
     ensures { result ≡ accept_by provider_words 64 tape.now sort }
 {
     let grammar = table();
@@ -115,12 +123,13 @@ pub fn provider(tape: &[u8]) -> Answer
     ensures { answer_with result [] [] [] ≡ provider_answer tape.now }
 {
     match accept_provider(tape, ROOT) {
-        Opened::Tape(_) => result_written(),
-        Opened::Refused(number) => refuse_result(number, &mut []),
+        Ok(_) => result_written(),
+        Err(fault) => refuse_result(fault.number(), &mut []),
     }
 }
 
 // The operation: the answer and every byte of the result buffer are what the definition says, for every slice and every buffer.
+#[tactic(auto, using(format::proofs::Accepted::bytes_all, crate::proofs::Operation::argument_short, crate::proofs::Operation::argument_given, crate::proofs::Operation::argument_refused))]
 pub fn argument_to_term(tape: &[u8], res: &mut [u8]) -> Answer
     ensures { answer_with result res.new [] [] ≡ argument_to_term_answer (length res.old) tape.now }
 {
@@ -128,13 +137,14 @@ pub fn argument_to_term(tape: &[u8], res: &mut [u8]) -> Answer
         return refuse_result(1, res);
     }
     match accept_provider(tape, ARGUMENT) {
-        Opened::Tape(l) => turn(false, 56, tape, l, res),
-        Opened::Refused(number) => refuse_result(number, res),
+        Ok(l) => turn(Way::ToTerm, 56, tape, l, res),
+        Err(fault) => refuse_result(fault.number(), res),
     }
 }
 
 // And back. A term that holds an Or holds an aggregate, which no argument becomes: it need not be rewritten, and acceptance has decided
 // the figures of its rewriting.
+#[tactic(auto, using(format::proofs::Accepted::bytes_all, crate::proofs::Operation::term_short, crate::proofs::Operation::term_given, crate::proofs::Operation::term_refused))]
 pub fn term_to_argument(tape: &[u8], res: &mut [u8]) -> Answer
     ensures { answer_with result res.new [] [] ≡ term_to_argument_answer (length res.old) tape.now }
 {
@@ -142,7 +152,7 @@ pub fn term_to_argument(tape: &[u8], res: &mut [u8]) -> Answer
         return refuse_result(1, res);
     }
     match accept(tape, TERM) {
-        Opened::Tape(l) => turn(true, 58, tape, l, res),
-        Opened::Refused(number) => refuse_result(number, res),
+        Ok(l) => turn(Way::ToArgument, 58, tape, l, res),
+        Err(fault) => refuse_result(fault.number(), res),
     }
 }

@@ -1,7 +1,7 @@
 -- The laws that several proofs of the crate cite.
 mod Codes
 pub mod Tables
-mod Steps
+pub mod Steps
 pub mod Standing
 pub mod Verdicts
 mod Answers

@@ -1,12 +1,13 @@
 -- Where a registry stands, its index has the places of its definitions, and a name finds the definition that `Registry::get` finds.
 -- Assumes nothing.
+use Rattle.std.proofs.Common.{Some, None, Option}
 use Prim.Native.Nat.{ℕ, suc, ◌+◌, ◌≤◌}
 use native.Mathlib.Nat.{add-zero, zero-add}
 use native.Mathlib.Omega.{arith}
 use mathlib.Core.Path.{◌≡◌, refl, sym, ap, ◌∙◌}
 use mathlib.Core.List.{List, [], ◌∷◌, ◌++◌}
 use mathlib.Core.Bool.{Bool, true, false}
-use mathlib.Core.Option.{Option, none, some}
+use mathlib.Core.Option.{Option as Maybe, none, some}
 use lib.Dec.{T, leb, eqb}
 use lib.ListN.{length, take, length-append}
 use lib.Seq.{take_all}
@@ -32,8 +33,6 @@ use Rattle.tape.proofs.Runs.{place, run_code, run_value}
 use Rattle.nodes.proofs.Entries.{is_spelled}
 use Rattle.nodes.proofs.Placed.{parts_def, parts_defs}
 use Rattle.registry.specs.Places.{Row, key_of, end_of, cons_if, key_at, rows_from, index_at, get_at}
-use Rattle.registry.specs.declared.Found.{Found}
-use Rattle.registry.specs.declared.Found.TheVariants.{Definition, Nothing}
 use Rattle.tape.proofs.Holding.{holding}
 use Rattle.registry.proofs.Codes.{Inner, inner_params, inner_body}
 
@@ -175,9 +174,9 @@ module _ (s : List ℕ) (l : Layout) where
     pub params_stand : Inside s l params (flat_params d.params)
     pub body_stands : Inside s l (past (flat_params d.params) params) (flat_body d.body)
 
-  pub data Finds : Found → Option MacroDef → Type 0 where
-    finds_nothing : Finds Nothing none
-    finds : {h : Heading} {params : Place} {end : ℕ} {d : MacroDef} → Defined h params d → Finds (Definition h params end) (some d)
+  pub data Finds : Option (Heading × Place × ℕ) → Maybe MacroDef → Type 0 where
+    finds_nothing : Finds None none
+    finds : {h : Heading} {params : Place} {end : ℕ} {d : MacroDef} → Defined h params d → Finds (Some (h, params, end)) (some d)
 
 -- names with other keys are other names
 pub other_key : (r : Row) (a b : Text) → r.key ≡ key_of a → eqb r.key (key_of b) ≡ false → eq_text a b ≡ false
@@ -202,13 +201,13 @@ module _ {s : List ℕ} {l : Layout} where
       }))
     where
       go : (b : Bool) {head : Heading} {params : Place} → Finds s l (get_at s l rs name) (get ds name) → Defined s l head params d
-          → Finds s l (pick b (Definition head params (end_of l rs)) (get_at s l rs name)) (elim b [ true ↦ some d | false ↦ get ds name ])
+          → Finds s l (pick b (Some (head, params, end_of l rs)) (get_at s l rs name)) (elim b [ true ↦ some d | false ↦ get ds name ])
       go true rest f = finds f
       go false rest f = rest
 
       by_key : (t : Bool) → eqb r.key (key_of name) ≡ t → {head : Heading} {params : Place} → Finds s l (get_at s l rs name) (get ds name)
           → Defined s l head params d
-          → Finds s l (pick t (pick (eq_text d.name name) (Definition head params (end_of l rs)) (get_at s l rs name)) (get_at s l rs name))
+          → Finds s l (pick t (pick (eq_text d.name name) (Some (head, params, end_of l rs)) (get_at s l rs name)) (get_at s l rs name))
           (elim (eq_text d.name name) [ true ↦ some d | false ↦ get ds name ])
       by_key true e rest f = go (eq_text d.name name) rest f
       by_key false e rest f = rw (other_key r d.name name k e) rest

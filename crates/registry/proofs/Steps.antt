@@ -1,53 +1,49 @@
 -- One law for each way a function of the crate returns, from what the code learnt to the definition that the contract cites.
 -- Assumes nothing.
-use Prim.Native.Nat.{ℕ, suc, ◌+◌, ◌*◌, ◌-◌, ◌/◌, ◌%◌, ◌≤◌, ◌<◌}
+use Rattle.std.proofs.Common.{Option, Some, None, Result, Ok, Err, nat_eq}
+use Rattle.std.specs.Result.{result_ok}
+use lib.Pointwise.{pointwise}
+use Rattle.nodes.proofs.Texts.{equal_texts}
+use Prim.Native.Nat.{ℕ, suc, ◌+◌, ◌*◌, ◌-◌, ◌/◌, ◌%◌, ◌≤◌, ◌<◌, min}
 use native.Mathlib.Omega.{arith}
 use native.Mathlib.Nat.{sub-zero}
 use native.Mathlib.Numerals.{add-one}
 use mathlib.Core.Path.{◌≡◌, refl, sym, ap, ◌∙◌}
+use Rattle.definition.proofs.Texts.{contains_append}
 use mathlib.Core.List.{List, [], ◌∷◌, ◌++◌, append-nil}
-use mathlib.Core.Bool.{Bool, true, false, ◌||◌}
+use mathlib.Core.Bool.{◌||◌, Bool, true, false}
 use lib.Dec.{leb, eqb}
-use lib.ListN.{length, take, drop, get_or, length-drop, take-append-drop, drop_of_length-le}
-use lib.Seq.{sets, take-nil, drop-drop, drop-cons, get_or-drop, append_snoc}
+use lib.ListN.{length, take, drop, get_or, drop_of_length-le}
+use lib.Seq.{sets, take-nil, drop-cons, get_or-drop, append_snoc}
 use borrow.Author.Tests.{lt-leb, le-leb, eq-eqb, ne_eqb}
 use Rattle.format.specs.Entry.{Text}
 use Rattle.format.specs.Tape.{is_text, text_width}
 use Rattle.definition.specs.Text.{eq_text}
 use Rattle.definition.specs.Check.{contains}
-use Rattle.definition.specs.Registry.{reserved_names}
-use Rattle.definition.proofs.Texts.{contains_append}
 use Rattle.tape.specs.Pick.{pick}
-use Rattle.tape.specs.Layouts.{holds, code_at, value_at}
-use Rattle.nodes.specs.Node.{on_heading, heading_at, name_at}
+use Rattle.tape.specs.Layouts.{code_at, value_at}
+use Rattle.nodes.specs.Node.{on_heading, heading_at, name_at, on_value, no_heading, malformed, refusal_of, expect_at}
 use Rattle.tape.specs.declared.layout.Layout.{Layout}
 use Rattle.tape.specs.declared.layout.Place.{Place}
 use Rattle.tape.proofs.Runs.{place}
 use Rattle.nodes.specs.declared.Refusal.{Refusal}
 use Rattle.nodes.specs.declared.Heading.{Heading}
-use Rattle.nodes.specs.declared.HeadingRead.{HeadingRead}
-use Rattle.nodes.specs.declared.HeadingRead.TheVariants as hr
-use Rattle.messages.specs.Reason.{refused_at}
-use Rattle.messages.specs.declared.Refused.{Refused as RefusedBy}
-use Rattle.messages.specs.declared.Reason.TheVariants.{WithoutMessage, Reserved, Duplicate}
-use Rattle.answer.specs.declared.Verdict.{Verdict}
-use Rattle.answer.specs.declared.Verdict.TheVariants.{Passes, Refused}
-use Rattle.registry.specs.Places.{Row, origin, first_row, rows_in, rows_between, Ends, from_key, FirstAt, key_from, key_of, end_of, cons_if, key_at, rows_from, index_at, get_at, and_then_in, check_at, build_from_at, build_at}
-use Rattle.registry.specs.declared.Found.{Found}
-use Rattle.registry.specs.declared.Found.TheVariants.{Definition, Nothing}
-use Rattle.registry.proofs.Tables.{table_ends, rows_left, no_rows, row_read, row_written, rest_behind, number_at, between_none, between_next}
+use Rattle.messages.specs.Reason.{without_message}
+use Rattle.messages.specs.declared.Refused.{Refused}
+use Rattle.registry.specs.Places.{Row, origin, first_row, rows_in, rows_between, Ends, from_key, FirstAt, key_from, key_of, end_of, cons_if, key_at, rows_from, get_at, and_then_in, check_at, build_from_at, build_at}
+use Rattle.registry.proofs.Tables.{row_next, rows_done, row_read, row_written, number_at, between_none, between_next}
 
 -- ------------------------------------------------------------------ keys
 
 -- the byte at i, and the rest
-pub key_turn : (name : Text) (h i : ℕ) → i < length name
-    → key_from h (drop i name) ≡ key_from ((h * 16777619 + get_or name i 0) % 4294967296) (drop (i + 1) name)
-unfolding key_from
-key_turn name h i k = rw (drop-cons name i 0 k, add-one)
+module _ (name : Text) (h i : ℕ) {key : ℕ} (inv : key_from h (drop i name) ≡ key) where
+  pub key_turn : i < length name → key_from ((h * 16777619 + get_or name i 0) % 4294967296) (drop (i + 1) name) ≡ key
+  unfolding key_from
+  key_turn k = sym (rw (drop-cons name i 0 k, add-one)) ∙ inv
 
-pub key_end : (name : Text) (h i : ℕ) → length name ≤ i → key_from h (drop i name) ≡ h
-unfolding key_from
-key_end name h i k = rw (drop_of_length-le name {i = i} k)
+  pub key_end : length name ≤ i → h ≡ key
+  unfolding key_from
+  key_end k = rw (drop_of_length-le name {i = i} k) at inv
 
 key_below : (name : Text) (h : ℕ) → h < 4294967296 → key_from h name < 4294967296
 unfolding key_from
@@ -58,11 +54,6 @@ key_below (b ∷ name) h k = key_below name ((h * 16777619 + b) % 4294967296) (o
 pub key_small : (s : List ℕ) (l : Layout) (p : Place) {key : ℕ} → key ≡ key_at s l p → key < 4294967296
 unfolding key_at key_of
 key_small s l p e = rw e (key_below (name_at s l (record { text = p.text; size = value_at s l (p.at + 1) })) 0 (omega arith))
-
-pub key_here : (s : List ℕ) (l : Layout) (p : Place) {k size : ℕ} {u : List ℕ} → size ≡ value_at s l (p.at + 1)
-    → u ≡ name_at s l (record { text = p.text; size = size }) → k ≡ key_of u → k ≡ key_at s l p
-unfolding key_at
-key_here s l p e q r = rw (← e, ← q) r
 
 -- ------------------------------------------------------------------ the index
 
@@ -143,15 +134,6 @@ module _ (s : List ℕ) (l : Layout) where
   unfolding rows_in
   index_start table room = rw (sub-zero room, sub-zero l.entries)
 
-  pub index_held : {b : Bool} {rs : List Row} (room : ℕ) → b ≡ holds s l → b ≡ true → rs ≡ take room (rows_from s l l.entries origin)
-      → rs ≡ index_at s l room
-  unfolding index_at
-  index_held room e t h = rw (← e, t) h
-
-  pub index_not_held : {b : Bool} (table : List ℕ) (room : ℕ) → b ≡ holds s l → b ≡ false → rows_in table 0 ≡ index_at s l room
-  unfolding index_at rows_in
-  index_not_held table room e f = rw (← e, f)
-
 -- ------------------------------------------------------------------ the definition of a name
 
 -- the place in a row
@@ -168,6 +150,15 @@ module _ (l : Layout) (table : List ℕ) (next end : ℕ) where
   pub end_next : next < end → (end - next) % 2 ≡ 0 → end ≤ length table → get_or table next 0 % 2048 ≡ end_of l (rows_between table next end)
   unfolding end_of first_row
   end_next h w i = rw (between_next table next end h w i, number_at table next)
+
+-- what `.ok()` leaves of a heading
+abbrev heading_or : Heading × Place → Option (Heading × Place) → Heading × Place
+heading_or other None = other
+heading_or other (Some read) = read
+
+read_ok : {x : Result (Heading × Place) Refusal} {read : Heading × Place} → result_ok x ≡ Some read → x ≡ Ok read
+read_ok {x = Ok r} {read} e = ap (λ o. Ok (heading_or read o)) e
+read_ok {x = Err f} e = absurd cc
 
 module _ (s : List ℕ) (l : Layout) (name : Text) where
   -- rows with other keys have other names
@@ -190,19 +181,19 @@ module _ (s : List ℕ) (l : Layout) (name : Text) where
       → get_at s l (rows_between table at end) name ≡ get_at s l (rows_in table count) name
   get_start table count {end} y z d = get_skips table 0 end y d ∙ ap (λ (rs : List Row). get_at s l rs name) z.same
 
-  module _ (table : List ℕ) (k end : ℕ) {g : Found} (inv : get_at s l (rows_between table k end) name ≡ g) where
-    pub get_done : end ≤ k → Nothing ≡ g
+  module _ (table : List ℕ) (k end : ℕ) {g : Option (Heading × Place × ℕ)} (inv : get_at s l (rows_between table k end) name ≡ g) where
+    pub get_done : end ≤ k → None ≡ g
     unfolding get_at
     get_done h = rw (between_none table k end h) at inv
 
     -- a row with the name's key
-    module _ {key : ℕ} {p : Place} {x : HeadingRead} (h : k < end) (w : (end - k) % 2 ≡ 0) (i : end ≤ length table) (y : key ≡ key_of name)
+    module _ {key : ℕ} {p : Place} {x : Result (Heading × Place) Refusal} (h : k < end) (w : (end - k) % 2 ≡ 0) (i : end ≤ length table) (y : key ≡ key_of name)
         (j : get_or table k 0 / 2048 ≡ key) (q : p ≡ (first_row (drop k table)).place) (e : x ≡ heading_at s l p 60) where
       -- by its heading, and then by the rest
-      by_heading : HeadingRead → Found
+      by_heading : Result (Heading × Place) Refusal → Option (Heading × Place × ℕ)
       by_heading z =
-          on_heading Nothing
-          (λ head params. pick (eq_text (name_at s l head.name) name) (Definition head params (end_of l (rows_between table (k + 2) end))) (get_at s l (rows_between table (k + 2) end) name))
+          on_heading None
+          (λ head params. pick (eq_text (name_at s l head.name) name) (Some (head, params, end_of l (rows_between table (k + 2) end))) (get_at s l (rows_between table (k + 2) end) name))
           z
 
       first_left : pick (eqb (first_row (drop k table)).key key) (by_heading (heading_at s l (first_row (drop k table)).place 60)) (get_at s l (rows_between table (k + 2) end) name) ≡ g
@@ -215,107 +206,95 @@ module _ (s : List ℕ) (l : Layout) (name : Text) where
           let there : get_or (drop k table) 0 0 / 2048 ≡ key = ap (λ (n : ℕ). n / 2048) (number_at table k) ∙ j in
           rw (eq-eqb (get_or (drop k table) 0 0 / 2048) key there, ← q, ← e) at first_left
 
-      pub get_unread : {r : Refusal} → x ≡ hr.Refused r → Nothing ≡ g
+      pub get_unread : {r : Refusal} → x ≡ Err r → None ≡ g
       unfolding by_heading
       get_unread r = rw r at same_key
 
-      module _ {head : Heading} {params : Place} {u : List ℕ} {f : Bool} (r : x ≡ hr.Node head params) (v : u ≡ name_at s l head.name) (c : f ≡ eq_text u name) where
-        pub get_found : {last : ℕ} → f ≡ true → last ≡ end_of l (rows_between table (k + 2) end) → Definition head params last ≡ g
-        unfolding by_heading
-        get_found t z = ap (Definition head params) z ∙ (rw (r, ← v, ← c, t) at same_key)
+      module _ {head : Heading} {params : Place} {o : Option (Heading × Place)} (r : o ≡ result_ok x) (found : o ≡ Some (head, params))
+          {u : Text} (v : u ≡ name_at s l head.name) where
+        first_left_ok : by_heading (Ok (head, params)) ≡ g
+        first_left_ok = rw (← (read_ok (sym r ∙ found))) same_key
 
-        pub get_next : {at : ℕ} → f ≡ false → FirstAt table key (k + 2) end at → get_at s l (rows_between table at end) name ≡ g
+        pub get_found : {last : ℕ} → true ≡ pointwise nat_eq u name → last ≡ end_of l (rows_between table (k + 2) end)
+            → Some (head, params, last) ≡ g
         unfolding by_heading
-        get_next t d = get_skips table (k + 2) end y d ∙ (rw (r, ← v, ← c, t) at same_key)
+        get_found t z =
+            ap (λ (n : ℕ). Some (head, params, n)) z ∙ (rw (← v, ← (equal_texts u name), ← t) at first_left_ok)
+
+        pub get_next : {at : ℕ} → false ≡ pointwise nat_eq u name → FirstAt table key (k + 2) end at
+            → get_at s l (rows_between table at end) name ≡ g
+        unfolding by_heading
+        get_next t d =
+            get_skips table (k + 2) end y d ∙ (rw (← v, ← (equal_texts u name), ← t) at first_left_ok)
 
 -- ------------------------------------------------------------------ reserved names and duplicates
 
--- the first test that holds decides
-pub or_first : {b x : Bool} (y : Bool) → b ≡ x → b ≡ true → true ≡ (x || y)
-or_first y e t = rw (← e, t)
+or_three : (v w x y : Bool) → (v || (w || (x || y))) ≡ (((v || w) || x) || y)
+or_three true w x y = refl
+or_three false true x y = refl
+or_three false false true y = refl
+or_three false false false y = refl
 
-pub or_next : {r b x y : Bool} → b ≡ x → b ≡ false → r ≡ y → r ≡ (x || y)
-or_next e f h = rw (← e, f) h
+-- whether a name is in one of four lists
+pub in_four_lists : (p q r s : List Text) (name : Text)
+    → (((contains p name || contains q name) || contains r name) || contains s name) ≡ contains (p ++ (q ++ (r ++ s))) name
+in_four_lists p q r s name =
+    sym
+    (contains_append p (q ++ (r ++ s)) name
+    ∙ ap (λ (b : Bool). contains p name || b)
+    (contains_append q (r ++ s) name ∙ ap (λ (b : Bool). contains q name || b) (contains_append r s name))
+    ∙ or_three (contains p name) (contains q name) (contains r name) (contains s name))
 
-pub or_last : {r x : Bool} → r ≡ x → r ≡ (x || false)
-or_last {r} {x} e = e ∙ go x
-  where
-    go : (x : Bool) → x ≡ (x || false)
-    go true = refl
-    go false = refl
+-- a heading that does not stand there is the refusal 2
+abbrev fault_of : Result (Heading × Place) Refusal → Refusal
+fault_of (Ok r) = malformed
+fault_of (Err f) = f
 
--- the names of a list, some and then the others
-module _ (k : ℕ) (xs : List Text) (name : Text) {b : Bool} (e : b ≡ contains (take k xs) name) where
-  split : contains xs name ≡ (contains (take k xs) name || contains (drop k xs) name)
-  split = ap (λ (ys : List Text). contains ys name) (sym (take-append-drop k xs)) ∙ contains_append (take k xs) (drop k xs) name
+on_value_fault : (o : Option (ℕ × Place)) (k : ℕ → Place → Result (Heading × Place) Refusal) → ((v : ℕ) (q : Place) → fault_of (k v q) ≡ malformed)
+    → fault_of (on_value no_heading k o) ≡ malformed
+on_value_fault None k h = refl
+on_value_fault (Some (v, q)) k h = h v q
 
-  pub contains_first : b ≡ true → true ≡ contains xs name
-  contains_first t = or_first (contains (drop k xs) name) e t ∙ sym split
+heading_fault : (s : List ℕ) (l : Layout) (p : Place) (code : ℕ) → fault_of (heading_at s l p code) ≡ malformed
+unfolding heading_at
+heading_fault s l p code =
+    on_value_fault (expect_at s l p code) _ (λ span name.
+    on_value_fault (expect_at s l name 40) _ (λ size list.
+    on_value_fault (expect_at s l list 41) _ (λ count next. refl)))
 
-  pub contains_next : {r : Bool} → b ≡ false → r ≡ contains (drop k xs) name → r ≡ contains xs name
-  contains_next f h = or_next e f h ∙ sym split
+pub heading_refusal : (s : List ℕ) (l : Layout) (p : Place) (code : ℕ) {f : Refusal} → heading_at s l p code ≡ Err f → f ≡ malformed
+heading_refusal s l p code e = ap fault_of (sym e) ∙ heading_fault s l p code
 
-module _ (s : List ℕ) (l : Layout) (seen : List Row) (p : Place) {x : HeadingRead} (e : x ≡ heading_at s l p 60) where
-  pub name_unread : {r : Refusal} {f : RefusedBy} → x ≡ hr.Refused r → f ≡ refused_at 0 (WithoutMessage 2) → Refused f ≡ check_at s l seen p
-  unfolding check_at
-  name_unread r q = rw (← e, r, q)
-
-  module _ {h : Heading} {params : Place} {u : List ℕ} {b : Bool} (r : x ≡ hr.Node h params) (v : u ≡ name_at s l h.name)
-      (y : b ≡ contains reserved_names u) where
-    pub name_reserved : {f : RefusedBy} → b ≡ true → f ≡ refused_at h.span (Reserved h.name) → Refused f ≡ check_at s l seen p
-    unfolding check_at
-    name_reserved t q = rw (← e, r, ← v, ← y, t, q)
-
-    pub name_duplicate : {g : Found} {first : Heading} {next : Place} {end : ℕ} {f : RefusedBy} → b ≡ false → g ≡ get_at s l seen u → g ≡ Definition first next end
-        → f ≡ refused_at h.span (Duplicate h.name first.span) → Refused f ≡ check_at s l seen p
-    unfolding check_at
-    name_duplicate t i j q = rw (← e, r, ← v, ← y, t, ← i, j, q)
-
-    pub name_passes : {g : Found} → b ≡ false → g ≡ get_at s l seen u → g ≡ Nothing → Passes ≡ check_at s l seen p
-    unfolding check_at
-    name_passes t i j = rw (← e, r, ← v, ← y, t, ← i, j)
+pub name_unread : (s : List ℕ) (l : Layout) (seen : List Row) (p : Place) {x : Result (Heading × Place) Refusal} {f : Refusal} → x ≡ heading_at s l p 60
+    → x ≡ Err f → Err (without_message f) ≡ check_at s l seen p
+unfolding check_at refusal_of
+name_unread s l seen p e q = rw (heading_refusal s l p 60 (sym e ∙ q), ← e, q)
 
 -- ------------------------------------------------------------------ the definitions one by one
 
-module _ (s : List ℕ) (l : Layout) (places : List ℕ) (i : ℕ) (rest : List ℕ) (count : ℕ) {v : Verdict}
-    (inv : build_from_at s l (rows_in places i) (rows_in rest (count - i)) ≡ v) where
-  pub build_done : count ≤ i → Passes ≡ v
+module _ (s : List ℕ) (l : Layout) (places : List ℕ) (count i : ℕ) {v : Result Unit Refused}
+    (inv : build_from_at s l (rows_in places i) (rows_in (drop (2 * i) places) (count - i)) ≡ v) where
+  pub build_done : min count (length places / 2) ≤ i → (Ok tt) ≡ v
   unfolding build_from_at
-  build_done h = rw (no_rows rest {n = count - i} (omega arith)) at inv
+  build_done h = rw (rows_done places count i h) at inv
 
-  pub build_short : length rest < 2 → Passes ≡ v
-  unfolding build_from_at
-  build_short h = rw (table_ends rest (count - i) h) at inv
-
-  module _ {p : Place} {w : Verdict} (h : i < count) (k : 2 ≤ length rest) (q : p ≡ (first_row rest).place) (e : w ≡ check_at s l (rows_in places i) p) where
-    onward : and_then_in w (build_from_at s l (rows_in places i ++ first_row rest ∷ []) (rows_in (drop 2 rest) (count - i - 1))) ≡ v
+  module _ {p : Place} (h : i < min count (length places / 2)) (q : p ≡ (first_row (drop (2 * i) places)).place) where
+    onward : and_then_in (check_at s l (rows_in places i) p)
+        (build_from_at s l (rows_in places (i + 1)) (rows_in (drop (2 * (i + 1)) places) (count - (i + 1)))) ≡ v
     unfolding build_from_at
     onward =
-        ap (λ (x : Verdict). and_then_in x (build_from_at s l (rows_in places i ++ first_row rest ∷ []) (rows_in (drop 2 rest) (count - i - 1))))
-        (e ∙ ap (check_at s l (rows_in places i)) q)
-        ∙ sym (ap (build_from_at s l (rows_in places i)) (rows_left rest {n = count - i} (omega arith) k)) ∙ inv
+        let one : rows_in places (i + 1) ≡ rows_in places i ++ first_row (drop (2 * i) places) ∷ [] =
+        ap (rows_in places) (add-one i) ∙ row_read i places (omega arith) in
+        rw (q, one) (rw (row_next places count i (omega arith) (omega arith)) at inv)
 
-    pub build_refused : {f : RefusedBy} → w ≡ Refused f → w ≡ v
-    build_refused r = r ∙ (rw r at onward)
+    pub build_refused : {r : Refused} → Err r ≡ check_at s l (rows_in places i) p → Err r ≡ v
+    build_refused e = rw (← e) at onward
 
-    pub build_more : w ≡ Passes → rest ≡ drop (2 * i) places → 2 * i + 2 ≤ length places
-        → build_from_at s l (rows_in places (i + 1)) (rows_in (take (length rest - 2) (drop 2 rest)) (count - (i + 1))) ≡ v
-    build_more r d fits =
-        let c : count - (i + 1) ≡ count - i - 1 = omega arith in
-        let one : rows_in places (i + 1) ≡ rows_in places i ++ first_row rest ∷ [] =
-        ap (rows_in places) (add-one i) ∙ row_read i places fits ∙ ap (λ (t : List ℕ). rows_in places i ++ first_row t ∷ []) (sym d) in
-        rw (rest_behind rest, c, one) (rw r at onward)
+    pub build_more : Ok tt ≡ check_at s l (rows_in places i) p
+        → build_from_at s l (rows_in places (i + 1)) (rows_in (drop (2 * (i + 1)) places) (count - (i + 1))) ≡ v
+    build_more e = rw (← e) at onward
 
 pub build_start : (s : List ℕ) (l : Layout) (places : List ℕ) (count : ℕ)
-    → build_from_at s l (rows_in places 0) (rows_in places (count - 0)) ≡ build_at s l (rows_in places count)
+    → build_from_at s l (rows_in places 0) (rows_in (drop (2 * 0) places) (count - 0)) ≡ build_at s l (rows_in places count)
 unfolding build_at rows_in
 build_start s l places count = ap (λ (k : ℕ). build_from_at s l [] (rows_in places k)) (sub-zero count)
-
--- where the rest of the table starts
-pub table_room : (places : List ℕ) {rest : List ℕ} (i : ℕ) → rest ≡ drop (2 * i) places → 2 ≤ length rest → 2 * i + 2 ≤ length places
-table_room places i d k = omega (arith, ap length d, length-drop (2 * i) places)
-
-pub rest_next : (places rest : List ℕ) (i : ℕ) → rest ≡ drop (2 * i) places → take (length rest - 2) (drop 2 rest) ≡ drop (2 * (i + 1)) places
-rest_next places rest i d =
-    let e : 2 * (i + 1) ≡ 2 * i + 2 = omega arith in
-    rest_behind rest ∙ ap (drop 2) d ∙ drop-drop 2 (2 * i) places ∙ ap (λ (k : ℕ). drop k places) (sym e)

@@ -1,12 +1,14 @@
 -- Tables of rows: read one by one from the front, and written one behind the other.
 -- Assumes nothing.
-use Prim.Native.Nat.{ℕ, zero, suc, ◌+◌, ◌*◌, ◌-◌, ◌/◌, ◌%◌, ◌≤◌, ◌<◌}
+use Prim.Native.Nat.{ℕ, zero, suc, ◌+◌, ◌*◌, ◌-◌, ◌/◌, ◌%◌, ◌≤◌, ◌<◌, min}
 use native.Mathlib.Omega.{arith}
 use mathlib.Core.Path.{◌≡◌, refl, sym, ap, ◌∙◌}
 use mathlib.Core.List.{List, [], ◌∷◌, ◌++◌}
-use lib.ListN.{length, take, drop, get_or, length-drop}
-use lib.Seq.{sets, take_all, drop-drop, get_or-drop}
-use borrow.Author.Tests.{le-leb, lt-leb, eq-eqb, ne_eqb}
+use mathlib.Core.Bool.{Bool, true, false}
+use lib.Dec.{leb}
+use lib.ListN.{length, drop, get_or, length-drop}
+use lib.Seq.{sets, drop-drop, get_or-drop}
+use borrow.Author.Tests.{leb-true, leb-false, le-leb, lt-leb, eq-eqb, ne_eqb}
 use Rattle.registry.specs.Places.{Row, first_row, rows_in, rows_between, Ends, from_key}
 
 module _ (table : List ℕ) where
@@ -27,14 +29,29 @@ pub no_rows : (table : List ℕ) {n : ℕ} → n ≤ 0 → rows_in table n ≡ [
 unfolding rows_in
 no_rows table {n} h = let e : n ≡ 0 = omega arith in rw e
 
--- what stands behind the first row
-pub rest_behind : (rest : List ℕ) → take (length rest - 2) (drop 2 rest) ≡ drop 2 rest
-rest_behind rest = take_all (length rest - 2) (drop 2 rest) (omega (arith, length-drop 2 rest))
+-- the rows behind i others: one, and those behind it
+pub row_next : (table : List ℕ) (count i : ℕ) → i < count → 2 * i + 2 ≤ length table
+    → rows_in (drop (2 * i) table) (count - i) ≡ first_row (drop (2 * i) table) ∷ rows_in (drop (2 * (i + 1)) table) (count - (i + 1))
+row_next table count i h r =
+    let left : count - i - 1 ≡ count - (i + 1) = omega arith in
+    let next : 2 * i + 2 ≡ 2 * (i + 1) = omega arith in
+    let k : 2 ≤ length (drop (2 * i) table) = omega (arith, length-drop (2 * i) table) in
+    rows_left (drop (2 * i) table) {n = count - i} (omega arith) k ∙ rw (left, drop-drop 2 (2 * i) table, next)
+
+-- there is none where the rows or the table end
+pub rows_done : (table : List ℕ) (count i : ℕ) → min count (length table / 2) ≤ i → rows_in (drop (2 * i) table) (count - i) ≡ []
+rows_done table count i h = go (leb count i) refl
+  where
+    go : (b : Bool) → leb count i ≡ b → rows_in (drop (2 * i) table) (count - i) ≡ []
+    go true e = let k : count ≤ i = leb-true count i e in no_rows (drop (2 * i) table) {n = count - i} (omega arith)
+    go false e =
+        let k : i < count = leb-false count i e in
+        table_ends (drop (2 * i) table) (count - i) (omega (arith, length-drop (2 * i) table))
 
 -- ------------------------------------------------------------------ rows by the numbers where they begin
 
 -- a table has a row for two numbers, and no more
-pub rows_most : (n : ℕ) (table : List ℕ) → length table / 2 ≤ n → rows_in table (length table / 2) ≡ rows_in table n
+rows_most : (n : ℕ) (table : List ℕ) → length table / 2 ≤ n → rows_in table (length table / 2) ≡ rows_in table n
 rows_most n [] h = table_ends [] 0 (omega arith) ∙ sym (table_ends [] n (omega arith))
 rows_most n (x ∷ []) h = table_ends (x ∷ []) 0 (omega arith) ∙ sym (table_ends (x ∷ []) n (omega arith))
 rows_most zero (x ∷ y ∷ table) h = absurd (omega arith)
@@ -45,10 +62,23 @@ rows_most (suc n) (x ∷ y ∷ table) h =
     ∙ ap (λ (rs : List Row). first_row (x ∷ y ∷ table) ∷ rs) (rows_most n table (omega arith))
     ∙ sym (next_row (x ∷ y ∷ table) n (omega arith))
 
-pub ends_at : (table : List ℕ) (n m : ℕ) → 2 * m ≤ length table → rows_in table m ≡ rows_in table n → Ends table n (2 * m)
+ends_at : (table : List ℕ) (n m : ℕ) → 2 * m ≤ length table → rows_in table m ≡ rows_in table n → Ends table n (2 * m)
 ends_at table n m i e =
     let half : (2 * m - 0) / 2 ≡ m = omega arith in
     record { whole = record { inside = i; even = omega arith }; same = ap (rows_in table) half ∙ e }
+
+pub ends_there : (table : List ℕ) (n : ℕ) → Ends table n (2 * min n (length table / 2))
+ends_there table n = go (leb n (length table / 2)) refl
+  where
+    go : (b : Bool) → leb n (length table / 2) ≡ b → Ends table n (2 * min n (length table / 2))
+    go true e =
+        let k : n ≤ length table / 2 = leb-true n (length table / 2) e in
+        let m : min n (length table / 2) ≡ n = omega arith in
+        rw m (ends_at table n n (omega arith) refl)
+    go false e =
+        let k : length table / 2 < n = leb-false n (length table / 2) e in
+        let m : min n (length table / 2) ≡ length table / 2 = omega arith in
+        rw m (ends_at table n (length table / 2) (omega arith) (rows_most n table (omega arith)))
 
 -- the first number of the row
 pub number_at : (table : List ℕ) (k : ℕ) → get_or (drop k table) 0 0 ≡ get_or table k 0

@@ -1,10 +1,13 @@
 -- Over the places where a registry's definitions stand, the names are judged as `Registry::build` judges the definitions.
 -- Assumes nothing.
+use Rattle.messages.specs.declared.Refused.{Refused}
+use Rattle.tape.specs.declared.layout.Place.{Place}
+use Rattle.std.proofs.Common.{Result, Err, Option}
 use Prim.Native.Nat.{ℕ}
 use mathlib.Core.Path.{◌≡◌, refl, sym, ap, ◌∙◌}
 use mathlib.Core.List.{List, [], ◌∷◌, ◌++◌}
 use mathlib.Core.Bool.{Bool, true, false}
-use mathlib.Core.Option.{Option, none, some}
+use mathlib.Core.Option.{Option as Maybe, none, some}
 use native.Mathlib.Omega.{arith}
 use lib.ListN.{length}
 use Rattle.format.specs.Entry.{Text}
@@ -26,15 +29,12 @@ use Rattle.messages.specs.Reason.{refused_at, message_of}
 use Rattle.messages.specs.declared.Reason.TheVariants.{Reserved}
 use Rattle.message_parts.proofs.Order.{eq_refl}
 use Rattle.answer.specs.Matches.{VerdictMatches}
-use Rattle.answer.specs.declared.Verdict.{Verdict}
-use Rattle.answer.specs.declared.Verdict.TheVariants.{Refused}
 use Rattle.registry.specs.Places.{Row, duplicate_of, and_then_in, check_at, build_from_at, build_at}
-use Rattle.registry.specs.declared.Found.{Found}
 use Rattle.registry.proofs.Standing.{Indexed, indexed_nil, indexed_cons, indexed_snoc, Finds, finds_nothing, finds, get_finds}
 
 -- ------------------------------------------------------------------ the order of the definitions before
 
-some_none : {A : Type 0} {a : A} → ◌≡◌ {A = Option A} (some a) none → ⊥
+some_none : {A : Type 0} {a : A} → ◌≡◌ {A = Maybe A} (some a) none → ⊥
 some_none h = let z : ◌≡◌ {A = ℕ} 0 1 = cc in omega arith
 
 -- a name that no definition has is looked for among those behind
@@ -43,8 +43,8 @@ unfolding get
 get_behind [] d name e = refl
 get_behind (c ∷ ds) d name e = go (eq_text c.name name) (get_behind ds d name) e
   where
-    go : (t : Bool) {o : Option MacroDef} → (get ds name ≡ none → get (ds ++ d ∷ []) name ≡ o) → ◌≡◌ {A = Option MacroDef} (elim t [ true ↦ some c | false ↦ get ds name ]) none
-        → ◌≡◌ {A = Option MacroDef} (elim t [ true ↦ some c | false ↦ get (ds ++ d ∷ []) name ]) o
+    go : (t : Bool) {o : Maybe MacroDef} → (get ds name ≡ none → get (ds ++ d ∷ []) name ≡ o) → ◌≡◌ {A = Maybe MacroDef} (elim t [ true ↦ some c | false ↦ get ds name ]) none
+        → ◌≡◌ {A = Maybe MacroDef} (elim t [ true ↦ some c | false ↦ get (ds ++ d ∷ []) name ]) o
     go true f h = absurd (some_none h)
     go false f h = f h
 
@@ -53,7 +53,7 @@ get_other : (ds : List MacroDef) (d : MacroDef) (name : Text) → eq_text d.name
 unfolding get
 get_other [] d name e = rw (get, e)
 get_other (c ∷ ds) d name e =
-    ap (λ (o : Option MacroDef). elim (eq_text c.name name) [ true ↦ some c | false ↦ o ]) (get_other ds d name e)
+    ap (λ (o : Maybe MacroDef). elim (eq_text c.name name) [ true ↦ some c | false ↦ o ]) (get_other ds d name e)
 
 -- a definition with a new name is found in front of the others as behind them
 get_new : (ds : List MacroDef) (d : MacroDef) (name : Text) → get ds d.name ≡ none → get (d ∷ ds) name ≡ get (ds ++ d ∷ []) name
@@ -70,9 +70,9 @@ get_new ds d name e = go (eq_text d.name name) refl
 
 module _ {s : List ℕ} {l : Layout} where
   -- 10, then 11, then the definitions behind: these go on only where no definition before has the name
-  name_matches : (v : Verdict) (w : definition.Verdict) (d : MacroDef) (b : Bool) (h : Heading) {f : Found} {o : Option MacroDef}
+  name_matches : (v : Result Unit Refused) (w : definition.Verdict) (d : MacroDef) (b : Bool) (h : Heading) {f : Option (Heading × Place × ℕ)} {o : Maybe MacroDef}
       → h.span ≡ d.span → name_at s l h.name ≡ d.name → Finds s l f o → (o ≡ none → VerdictMatches s l v w)
-      → VerdictMatches s l (and_then_in (pick b (Refused (refused_at h.span (Reserved h.name))) (duplicate_of h f)) v)
+      → VerdictMatches s l (and_then_in (pick b (Err (refused_at h.span (Reserved h.name))) (duplicate_of h f)) v)
       (elim b [ true ↦ some (refusal 10 d.span (reserved_name d.name)) | false ↦ none ] and_then check_duplicate o d and_then w)
   unfolding VerdictMatches ◌and_then◌ check_duplicate message_of
   name_matches v w d true h e n f k = record { its_number = refl; its_span = rw e; its_message = rw n }
@@ -93,7 +93,7 @@ module _ {s : List ℕ} {l : Layout} where
       (λ new.
       from_matches (d ∷ seen) (before ++ d ∷ [])
       (λ name.
-      ap (λ (o : Option MacroDef). elim (eq_text d.name name) [ true ↦ some d | false ↦ o ]) (same name) ∙ get_new before d name new)
+      ap (λ (o : Maybe MacroDef). elim (eq_text d.name name) [ true ↦ some d | false ↦ o ]) (same name) ∙ get_new before d name new)
       (indexed_snoc d h i k) more))
 
   pub build_matches : {rs : List Row} {ds : List MacroDef} → Indexed s l rs ds → VerdictMatches s l (build_at s l rs) (build ds)

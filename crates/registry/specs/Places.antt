@@ -1,6 +1,7 @@
 -- A registry by the places of its definitions: where they stand, the one that a name finds, and the first name that is refused.
 -- Assumes nothing.
-use Rattle.std.specs.Prelude.{ℕ, zero, suc, ◌+◌, ◌*◌, ◌-◌, ◌/◌, ◌%◌, ◌≤◌, ◌<◌, ◌≡◌, List, [], ◌∷◌, ◌++◌, Bool, true, false, leb, eqb, length, take, drop, get_or}
+use Rattle.messages.specs.declared.Refused.{Refused}
+use Rattle.std.specs.Prelude.{ℕ, zero, suc, ◌+◌, ◌*◌, ◌-◌, ◌/◌, ◌%◌, ◌≤◌, ◌<◌, ◌≡◌, List, [], ◌∷◌, ◌++◌, Bool, true, false, leb, eqb, length, take, drop, get_or, Option, Some, None, Result, Ok, Err}
 use Rattle.format.specs.Entry.{Text}
 use Rattle.definition.specs.Text.{eq_text}
 use Rattle.definition.specs.Check.{contains}
@@ -13,10 +14,6 @@ use Rattle.tape.specs.declared.layout.Place.{Place}
 use Rattle.nodes.specs.declared.Heading.{Heading}
 use Rattle.messages.specs.Reason.{refused_at}
 use Rattle.messages.specs.declared.Reason.TheVariants.{WithoutMessage, Reserved, Duplicate}
-use Rattle.answer.specs.declared.Verdict.{Verdict}
-use Rattle.answer.specs.declared.Verdict.TheVariants.{Passes, Refused}
-use Rattle.registry.specs.declared.Found.{Found}
-use Rattle.registry.specs.declared.Found.TheVariants.{Definition, Nothing}
 
 -- ------------------------------------------------------------------ a table of definitions
 
@@ -81,13 +78,13 @@ cons_if true a rest = a ∷ rest
 cons_if false a rest = rest
 
 -- the span is the later definition's, and the message has the start of the earlier one
-abbrev pub duplicate_of : Heading → Found → Verdict
-duplicate_of h Nothing = Passes
-duplicate_of h (Definition first params end) = Refused (refused_at h.span (Duplicate h.name first.span))
+abbrev pub duplicate_of : Heading → Option (Heading × Place × ℕ) → Result Unit Refused
+duplicate_of h None = (Ok tt)
+duplicate_of h (Some (first, params, end)) = Err (refused_at h.span (Duplicate h.name first.span))
 
-abbrev pub and_then_in : Verdict → Verdict → Verdict
-and_then_in Passes v = v
-and_then_in (Refused r) v = Refused r
+abbrev pub and_then_in : Result Unit Refused → Result Unit Refused → Result Unit Refused
+and_then_in (Ok tt) v = v
+and_then_in (Err r) v = Err r
 
 module _ (s : List ℕ) (l : Layout) where
   -- ------------------------------------------------------------------ where the definitions stand
@@ -111,28 +108,28 @@ module _ (s : List ℕ) (l : Layout) where
   -- ------------------------------------------------------------------ the definition of a name
 
   -- the first row whose definition has the name; where the key is another one, so is the name
-  unfoldable pub get_at : List Row → Text → Found
-  get_at [] name = Nothing
+  unfoldable pub get_at : List Row → Text → Option (Heading × Place × ℕ)
+  get_at [] name = None
   get_at (r ∷ rs) name =
       pick (eqb r.key (key_of name))
-      (on_heading Nothing (λ h params. pick (eq_text (name_at s l h.name) name) (Definition h params (end_of l rs)) (get_at rs name))
+      (on_heading None (λ h params. pick (eq_text (name_at s l h.name) name) (Some (h, params, end_of l rs)) (get_at rs name))
       (heading_at s l r.place 60))
       (get_at rs name)
 
   -- ------------------------------------------------------------------ reserved names and duplicates
 
-  abbrev pub name_check : List Row → Heading → Verdict
+  abbrev pub name_check : List Row → Heading → Result Unit Refused
   name_check seen h =
       let name = name_at s l h.name in
-      pick (contains reserved_names name) (Refused (refused_at h.span (Reserved h.name))) (duplicate_of h (get_at seen name))
+      pick (contains reserved_names name) (Err (refused_at h.span (Reserved h.name))) (duplicate_of h (get_at seen name))
 
   -- the definition at a place, with the earlier ones in `seen`; a place without definition is none of an accepted tape
-  unfoldable pub check_at : List Row → Place → Verdict
-  check_at seen p = on_heading (Refused (refused_at 0 (WithoutMessage 2))) (λ h params. name_check seen h) (heading_at s l p 60)
+  unfoldable pub check_at : List Row → Place → Result Unit Refused
+  check_at seen p = on_heading (Err (refused_at 0 (WithoutMessage 2))) (λ h params. name_check seen h) (heading_at s l p 60)
 
-  unfoldable pub build_from_at : (seen rest : List Row) → Verdict
-  build_from_at seen [] = Passes
+  unfoldable pub build_from_at : (seen rest : List Row) → Result Unit Refused
+  build_from_at seen [] = (Ok tt)
   build_from_at seen (r ∷ rs) = and_then_in (check_at seen r.place) (build_from_at (seen ++ r ∷ []) rs)
 
-  unfoldable pub build_at : List Row → Verdict
+  unfoldable pub build_at : List Row → Result Unit Refused
   build_at rs = build_from_at [] rs

@@ -14,44 +14,39 @@ ghost use Rattle.definition.specs.Counts.{fresh_counts};
 ghost use Rattle.registry.specs.Places.{origin, first_row, rows_in, rows_between, Whole, Ends, FirstAt, key_of, end_of, key_at, rows_from, index_at, get_at, check_at, build_at};
 
 use crate::counts::{Counts, fresh};
-use answer::{Answer, Verdict, answer_verdict, refuse_number};
+use answer::{Answer, answer_verdict, refuse_number};
 use buffer::read_value;
+use grammar::code;
 use grammar::codes::DEFINITIONS;
 use grammar::kind::is_text;
-use messages::{Reason, refuse};
-use nodes::{Heading, HeadingRead, Name, name_at, read_heading, same_text};
+use messages::{Reason, Refused, refuse};
+use nodes::{Heading, Name, name_at, read_heading};
 use tape::accept::accept;
-use tape::header::Opened;
 use tape::layout::{Layout, Place, code_at, holds, value_at};
 
 pub mod counts;
 
 // What the operation returns: its answer, and the state of a registry just built.
-#[derive(Clone, Copy)]
+#[derive(Clone, Copy, Debug, PartialEq, Eq)]
 pub struct Registered {
     pub answer: Answer,
     pub counts: Counts,
 }
 
-// A definition that was found: its head, where its parameters stand, and the entry behind its body.
-#[derive(Clone, Copy)]
-pub enum Found {
-    Definition(Heading, Place, usize),
-    Nothing,
-}
-
 // The key of a name. Equal names have equal keys, so that texts are compared only where keys are equal.
+#[tactic(auto, using(crate::proofs::Steps::key_turn, crate::proofs::Steps::key_end), unfolding(crate::specs::Places::key_of))]
 pub fn key_of(name: &[u8]) -> usize
     ensures { result ≡ key_of name.now }
 {
     let mut h: usize = 0;
-    for i in 0..name.len() {
-        h = (h * 16777619 + name[i] as usize) % 4294967296;
+    for &b in name {
+        h = (h * 16777619 + b as usize) % 4294967296;
     }
     h
 }
 
 // The key of the name of the definition at a place. The name stands in the entry behind the 60, which has no text.
+#[tactic(auto, unfolding(crate::specs::Places::key_at))]
 fn key_at(s: &[u8], l: Layout, p: Place) -> usize
     requires { l.values + 8 * (p.at + 1) ≤ length s.now }
     ensures { result ≡ key_at s.now l p }
@@ -65,7 +60,8 @@ fn key_at(s: &[u8], l: Layout, p: Place) -> usize
     key_of(name_at(s, l, name))
 }
 
-// Writes a row of the table: a key and the entry of a place in one number, and where the place's text starts.
+// Writes a row of the table: a key and the entry of a place, packed into one number so that a row is two and not three, and where the
+// place's text starts.
 fn put_row(places: &mut [usize], k: usize, p: Place, key: usize)
     requires { (k + 2 ≤ length places.old) × (p.at < 2048) × (key < 4294967296) }
     ensures { places.new ≡ sets places.old k ((key * 2048 + p.at) ∷ p.text ∷ []) }
@@ -75,6 +71,7 @@ fn put_row(places: &mut [usize], k: usize, p: Place, key: usize)
 }
 
 // The place in the row that begins with a number of a table.
+#[tactic(auto, using(crate::proofs::Steps::place_here))]
 fn place_at(places: &[usize], k: usize) -> Place
     requires { k + 2 ≤ length places.now }
     ensures { result ≡ (first_row (drop k places.now)).place }
@@ -86,6 +83,7 @@ fn place_at(places: &[usize], k: usize) -> Place
 }
 
 // How many bytes of text an entry takes. Few entries have text, and only their values are read.
+#[tactic(auto, unfolding(format::specs::Tape::text_width))]
 fn width_at(s: &[u8], l: Layout, at: usize, code: u8) -> u64
     requires { l.values + 8 * at + 8 ≤ length s.now }
     ensures { result ≡ text_width (is_text code) (value_at s.now l at) }
@@ -94,6 +92,7 @@ fn width_at(s: &[u8], l: Layout, at: usize, code: u8) -> u64
 }
 
 // The rows of the entries with the code 60, as many as the table holds, and their number.
+#[tactic(auto, using(crate::proofs::Steps::index_start, crate::proofs::Steps::key_small, crate::proofs::Steps::index_long, crate::proofs::Steps::index_noted, crate::proofs::Steps::index_full, crate::proofs::Steps::index_other, crate::proofs::Steps::index_done))]
 fn index_from(s: &[u8], l: Layout, places: &mut [usize]) -> usize
     requires { Held s.now l }
     ensures { rows_in places.new result ≡ take (length places.old / 2) (rows_from s.now l l.entries origin) }
@@ -102,113 +101,85 @@ fn index_from(s: &[u8], l: Layout, places: &mut [usize]) -> usize
     let entries = l.entries;
     let size = l.size;
     let mut n: usize = 0;
-    let mut at: usize = 0;
     let mut text: usize = 0;
-    while at < entries {
+    for at in 0..entries {
         let p = Place { at, text };
         let code = code_at(s, l, at);
         let width = width_at(s, l, at, code);
         if ((size - text) as u64) < width {
             return n;
         }
-        at += 1;
         text += width as usize;
-        if code == 60 {
-            let key = key_at(s, l, p);
-            if n < room {
-                put_row(places, 2 * n, p, key);
-                n += 1;
-            }
+        if code == code::DEFINITION && n < room {
+            put_row(places, 2 * n, p, key_at(s, l, p));
+            n += 1;
         }
     }
     n
 }
 
 // The rows of a registry's definitions in the table, two numbers for each, and how many there are. A 60 stands nowhere else.
+#[tactic(auto, unfolding(crate::specs::Places::index_at, crate::specs::Places::rows_in))]
 pub fn index(s: &[u8], l: Layout, places: &mut [usize]) -> usize
     ensures { rows_in places.new result ≡ index_at s.now l (length places.old / 2) }
 {
-    if !holds(s, l) {
-        return 0;
+    if holds(s, l) {
+        index_from(s, l, places)
+    } else {
+        0
     }
-    index_from(s, l, places)
 }
 
-// Whether a name is one of four.
+// Whether a name is one of four. A table and its `contains` took four times as many instructions.
+#[tactic(auto, using(nodes::proofs::Texts::equal_texts), unfolding(definition::specs::Check::contains))]
 fn is_one_of(a: &[u8], b: &[u8], c: &[u8], d: &[u8], name: &[u8]) -> bool
     ensures { result ≡ contains (a.now ∷ b.now ∷ c.now ∷ d.now ∷ []) name.now }
 {
-    if same_text(a, name) {
-        return true;
-    }
-    if same_text(b, name) {
-        return true;
-    }
-    if same_text(c, name) {
-        return true;
-    }
-    same_text(d, name)
+    a == name || b == name || c == name || d == name
 }
 
 // Whether a name is one of the Rust's RESERVED_MACRO_NAMES.
 fn is_reserved(name: &[u8]) -> bool
     ensures { result ≡ contains reserved_names name.now }
 {
-    if is_one_of(b"decimal", b"datetime", b"duration", b"ip", name) {
-        return true;
-    }
-    if is_one_of(b"let", b"in", b"where", b"for", name) {
-        return true;
-    }
-    if is_one_of(b"sum", b"count", b"tp", b"formerly", name) {
-        return true;
-    }
-    is_one_of(b"previous", b"since", b"true", b"false", name)
+    is_one_of(b"decimal", b"datetime", b"duration", b"ip", name)
+        | is_one_of(b"let", b"in", b"where", b"for", name)
+        | is_one_of(b"sum", b"count", b"tp", b"formerly", name)
+        | is_one_of(b"previous", b"since", b"true", b"false", name)
 }
 
 // The name of the definition at a place, against the reserved names and those of the first `count` rows.
-fn check_name(s: &[u8], l: Layout, places: &[usize], count: usize, p: Place) -> Verdict
+#[tactic(auto, using(crate::proofs::Steps::name_unread), unfolding(crate::specs::Places::check_at))]
+fn check_name(s: &[u8], l: Layout, places: &[usize], count: usize, p: Place) -> Result<(), Refused>
     ensures { result ≡ check_at s.now l (rows_in places.now count) p }
 {
-    let HeadingRead::Node(h, _) = read_heading(s, l, p, 60) else {
-        return Verdict::Refused(refuse(0, Reason::WithoutMessage(2)));
-    };
+    let (h, _) = read_heading(s, l, p, code::DEFINITION)?;
     let span = h.span;
     let named = h.name;
     let name = name_at(s, l, named);
     if is_reserved(name) {
-        return Verdict::Refused(refuse(span, Reason::Reserved(named)));
+        return Err(refuse(span, Reason::Reserved(named)));
     }
     match get(s, l, places, count, name) {
-        Found::Definition(first, _, _) => {
-            Verdict::Refused(refuse(span, Reason::Duplicate(named, first.span)))
-        }
-        Found::Nothing => Verdict::Passes,
+        Some((first, _, _)) => Err(refuse(span, Reason::Duplicate(named, first.span))),
+        None => Ok(()),
     }
 }
 
 // `Registry::build` over the first `count` rows of a table.
-pub fn check_names(s: &[u8], l: Layout, places: &[usize], count: usize) -> Verdict
+#[tactic(auto, using(crate::proofs::Steps::build_start, crate::proofs::Steps::build_more, crate::proofs::Steps::build_refused, crate::proofs::Steps::build_done))]
+pub fn check_names(s: &[u8], l: Layout, places: &[usize], count: usize) -> Result<(), Refused>
     ensures { result ≡ build_at s.now l (rows_in places.now count) }
 {
-    let mut rest = places;
-    let mut i: usize = 0;
-    while i < count {
-        if rest.len() < 2 {
-            return Verdict::Passes;
-        }
-        let found = check_name(s, l, places, i, place_at(rest, 0));
-        let Verdict::Passes = found else {
-            return found;
-        };
-        rest = &rest[2..];
-        i += 1;
+    let rows = count.min(places.len() / 2);
+    for i in 0..rows {
+        check_name(s, l, places, i, place_at(places, 2 * i))?;
     }
-    Verdict::Passes
+    Ok(())
 }
 
 // The names of a registry, with a table at hand.
-fn check_with_table(s: &[u8], l: Layout, places: &mut [usize]) -> Verdict
+fn check_with_table(s: &[u8], l: Layout, places: &mut [usize]) -> Result<(), Refused>
     ensures { result ≡ build_at s.now l (index_at s.now l (length places.old / 2)) }
 {
     let count = index(s, l, places);
@@ -216,7 +187,7 @@ fn check_with_table(s: &[u8], l: Layout, places: &mut [usize]) -> Verdict
 }
 
 // A tape has 1,024 entries at the most, and a definition four at the least: 255 definitions.
-fn check_registry(s: &[u8], l: Layout) -> Verdict
+fn check_registry(s: &[u8], l: Layout) -> Result<(), Refused>
     ensures { result ≡ build_at s.now l (index_at s.now l 255) }
 {
     let mut places = [0usize; 510];
@@ -224,6 +195,7 @@ fn check_registry(s: &[u8], l: Layout) -> Verdict
 }
 
 // 1 for a message buffer below 2,048 bytes, then the tape, then the names.
+#[tactic(auto, using(answer::proofs::Operations::message_short), unfolding(definition::specs::Answers::registry_answer))]
 fn answer_names(registry: &[u8], message: &mut [u8]) -> Answer
     ensures { answer_with result [] [] message.new ≡ registry_answer (length message.old) registry.now }
 {
@@ -231,8 +203,8 @@ fn answer_names(registry: &[u8], message: &mut [u8]) -> Answer
         return refuse_number(1, message);
     }
     match accept(registry, DEFINITIONS) {
-        Opened::Refused(n) => refuse_number(n, message),
-        Opened::Tape(l) => answer_verdict(registry, l, check_registry(registry, l), message),
+        Err(fault) => refuse_number(fault.number(), message),
+        Ok(l) => answer_verdict(registry, l, check_registry(registry, l), message),
     }
 }
 
@@ -246,18 +218,16 @@ pub fn build(registry: &[u8], message: &mut [u8]) -> Registered
 }
 
 // Where the first `count` rows of a table end, or all of them where it has fewer.
+#[tactic(auto, using(crate::proofs::Tables::ends_there))]
 fn rows_end(places: &[usize], count: usize) -> usize
     ensures { Ends places.now count result }
 {
-    let room = places.len() / 2;
-    if count < room {
-        return 2 * count;
-    }
-    2 * room
+    2 * count.min(places.len() / 2)
 }
 
 // Where the first row with a key begins, among those between two numbers of a table; no row begins there where none has it. For the
 // names of a registry each row is asked by all later ones, so a turn reads one number and compares it.
+#[tactic(auto, using(crate::proofs::Tables::key_hit, crate::proofs::Tables::key_miss, crate::proofs::Tables::key_nowhere))]
 fn find_key(places: &[usize], from: usize, end: usize, key: usize) -> usize
     requires { Whole places.now from end }
     ensures { FirstAt places.now key from end result }
@@ -273,31 +243,38 @@ fn find_key(places: &[usize], from: usize, end: usize, key: usize) -> usize
 }
 
 // A definition ends where the next row's begins, and the last one where the entries end.
+#[tactic(auto, using(crate::proofs::Steps::end_next, crate::proofs::Steps::end_last))]
 fn end_of(l: Layout, places: &[usize], next: usize, end: usize) -> usize
     requires { Whole places.now next end }
     ensures { result ≡ end_of l (rows_between places.now next end) }
 {
     if next < end {
-        return places[next] % 2048;
+        places[next] % 2048
+    } else {
+        l.entries
     }
-    l.entries
 }
 
 // `Registry::get`: the first definition of a name among the first `count`. A heading is read only where the key is the name's.
-pub fn get(s: &[u8], l: Layout, places: &[usize], count: usize, name: &[u8]) -> Found
+#[tactic(auto, using(crate::proofs::Steps::get_start, crate::proofs::Steps::get_unread, crate::proofs::Steps::get_done))]
+pub fn get(
+    s: &[u8],
+    l: Layout,
+    places: &[usize],
+    count: usize,
+    name: &[u8],
+) -> Option<(Heading, Place, usize)>
     ensures { result ≡ get_at s.now l (rows_in places.now count) name.now }
 {
     let key = key_of(name);
     let end = rows_end(places, count);
     let mut k = find_key(places, 0, end, key);
     while k < end {
-        let HeadingRead::Node(h, params) = read_heading(s, l, place_at(places, k), 60) else {
-            return Found::Nothing;
-        };
-        if same_text(name_at(s, l, h.name), name) {
-            return Found::Definition(h, params, end_of(l, places, k + 2, end));
+        let (h, params) = read_heading(s, l, place_at(places, k), code::DEFINITION).ok()?;
+        if name_at(s, l, h.name) == name {
+            return Some((h, params, end_of(l, places, k + 2, end)));
         }
         k = find_key(places, k + 2, end, key);
     }
-    Found::Nothing
+    None
 }

@@ -1,6 +1,8 @@
 -- What a registry holds that was built of a tape, and what a name finds in it.
 -- Assumes nothing.
-use Prim.Native.Nat.{ℕ, ◌<◌}
+use Rattle.tape.specs.declared.header.Fault.{Fault}
+use Rattle.std.proofs.Common.{Option, None, Result, Ok}
+use Prim.Native.Nat.{ℕ}
 use native.Mathlib.Omega.{arith}
 use mathlib.Core.Path.{◌≡◌, refl, sym, subst, ap, ◌∙◌}
 use mathlib.Core.List.{List, [], ◌∷◌}
@@ -23,8 +25,6 @@ use Rattle.definition.specs.Registry.{get, build}
 use Rattle.definition.specs.Answers.{Answer, answer, message_alone, number_alone, reading, verdict, registry_answer, open_answers}
 use Rattle.grammar.specs.Grammar as grammar
 use Rattle.tape.specs.Accept.{accept_of}
-use Rattle.tape.specs.declared.header.Opened.{Opened}
-use Rattle.tape.specs.declared.header.Opened.TheVariants as opened
 use Rattle.tape.specs.declared.layout.Layout.{Layout}
 use Rattle.tape.specs.declared.layout.Place.{Place}
 use Rattle.tape.proofs.Acceptance.{Answers, answers_2, answers_3, answers_tape, answers}
@@ -32,8 +32,6 @@ use Rattle.tape.proofs.Located.{past_place, accepted_alone}
 use Rattle.tape.proofs.Roots.{registry_root_lem, accepted_root}
 use Rattle.answer.specs.Matches.{answer_with}
 use Rattle.registry.specs.Places.{index_at, get_at}
-use Rattle.registry.specs.declared.Found.{Found}
-use Rattle.registry.specs.declared.Found.TheVariants.{Nothing}
 use Rattle.nodes.specs.declared.Heading.{Heading}
 use Rattle.registry.proofs.Standing.{Defined, Finds, finds_nothing, finds, get_finds, indexed_registry}
 use Rattle.registry_held.specs.Held.{layout_of, Holds, of_tape, of_nothing, Builds, Describes, FoundMatches, found_in, GetMatches}
@@ -63,12 +61,12 @@ as_accepted s bytes = (read_as registry_root rewrites_registry lawful_registry s
 
 -- where a tape was read, its acceptance has its layout
 opened_read : (s : List ℕ) → Bytes s → {defs : List MacroDef} → read registry_root s ≡ Reading.accepted defs
-    → accept_of s grammar.definitions ≡ opened.Tape (layout_of (accept_of s grammar.definitions))
+    → accept_of s grammar.definitions ≡ Ok (layout_of (accept_of s grammar.definitions))
 unfolding map_reading
 opened_read s bytes {defs} e = go (answers registry_root_lem s) (sym (as_accepted s bytes) ∙ e)
   where
-    go : {x : Opened} {y : Reading (List MacroDef)} → Answers (weighted registry_root) s x y → map_reading (rewritten registry_root) y ≡ Reading.accepted defs
-        → x ≡ opened.Tape (layout_of x)
+    go : {x : Result Layout Fault} {y : Reading (List MacroDef)} → Answers (weighted registry_root) s x y → map_reading (rewritten registry_root) y ≡ Reading.accepted defs
+        → x ≡ Ok (layout_of x)
     go answers_2 e = absurd (let z : ◌≡◌ {A = ℕ} 0 1 = cc in omega arith)
     go answers_3 e = absurd (let z : ◌≡◌ {A = ℕ} 0 1 = cc in omega arith)
     go (answers_tape h p) e = refl
@@ -81,7 +79,7 @@ builds s m message b bytes e q =
       its_layout = q;
       holds = λ z.
           let x = was_read m s (sym (ap (λ (a : Answer). a.number) e) ∙ z) in
-          (x.0, x.1, of_tape z x.1 (opened_read s bytes x.1 ∙ ap opened.Tape (sym q)));
+          (x.0, x.1, of_tape z x.1 (opened_read s bytes x.1 ∙ ap Ok (sym q)));
     }
 
 -- ------------------------------------------------------------------ a name
@@ -101,27 +99,27 @@ module _ {s : List ℕ} {l : Layout} where
       }
 
   -- a name finds the rewriting of the definition that it finds on the tape
-  found_matches : (ds : List MacroDef) (name : Text) {f : Found} → Finds s l f (get ds name) → FoundMatches s l f (get (replace_defs de_morgan ds) name)
+  found_matches : (ds : List MacroDef) (name : Text) {f : Option (Heading × Place × ℕ)} → Finds s l f (get ds name) → FoundMatches s l f (get (replace_defs de_morgan ds) name)
   unfolding FoundMatches get replace_defs replace_def
   found_matches [] name finds_nothing = tt
   found_matches (d ∷ ds) name h = go (eq_text d.name name) (λ k. found_matches ds name k) h
     where
-      go : {f : Found} (b : Bool) → (Finds s l f (get ds name) → FoundMatches s l f (get (replace_defs de_morgan ds) name))
+      go : {f : Option (Heading × Place × ℕ)} (b : Bool) → (Finds s l f (get ds name) → FoundMatches s l f (get (replace_defs de_morgan ds) name))
           → Finds s l f (elim b [ true ↦ some d | false ↦ get ds name ])
           → FoundMatches s l f (elim b [ true ↦ some (replace_def de_morgan d) | false ↦ get (replace_defs de_morgan ds) name ])
       go true k (finds h) = described d h
       go false k h = k h
 
 -- a registry that did not pass holds nothing
-pub nothing_found : (s name : List ℕ) (b : Built) → 0 < b.answer.number → GetMatches s b name Nothing
+pub nothing_found : (s name : List ℕ) (b : Built) → (b.answer.number ≡ 0 → ⊥) → GetMatches s b name None
 unfolding found_in FoundMatches get
-nothing_found s name b n = record { by_index = rw (ne_eqb b.answer.number 0 (λ z. omega (arith, n, z)), found_in) refl; as_defined = go }
+nothing_found s name b n = record { by_index = rw (ne_eqb b.answer.number 0 n, found_in) refl; as_defined = go }
   where
-    go : (defs : List MacroDef) → Holds s b defs → FoundMatches s b.layout Nothing (get defs name)
-    go defs (of_tape z e a) = absurd (omega (arith, n, z))
+    go : (defs : List MacroDef) → Holds s b defs → FoundMatches s b.layout None (get defs name)
+    go defs (of_tape z e a) = absurd (n z)
     go defs (of_nothing h) = tt
 
-pub name_found : (s name : List ℕ) (b : Built) {f : Found} → Bytes s → b.answer.number ≡ 0
+pub name_found : (s name : List ℕ) (b : Built) {f : Option (Heading × Place × ℕ)} → Bytes s → b.answer.number ≡ 0
     → f ≡ get_at s b.layout (index_at s b.layout 255) name
     → GetMatches s b name f
 unfolding found_in registry_root map_reading

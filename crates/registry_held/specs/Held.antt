@@ -1,7 +1,8 @@
 -- What a registry holds, what building it answers, and the definition that a name finds in it.
 -- Assumes nothing.
-use Rattle.std.specs.Prelude.{ℕ, ◌+◌, ◌≡◌, List, [], true, false, eqb, length}
-use Rattle.std.proofs.Math.Option.{Option, none, some}
+use Rattle.tape.specs.declared.header.Fault.{Fault}
+use Rattle.std.specs.Prelude.{ℕ, ◌+◌, ◌≡◌, List, [], true, false, eqb, length, Some, None, Result, Ok, Err, Option}
+use Rattle.std.proofs.Math.Option.{Option as Maybe, none, some}
 use Rattle.format.specs.Entry.{Text, text_of}
 use Rattle.format.specs.Ast.{MacroBody, MacroDef}
 use Rattle.format.specs.Flat.{flat_params, flat_body}
@@ -14,29 +15,25 @@ use Rattle.definition.specs.Answers.{registry_answer}
 use Rattle.grammar.specs.Grammar as grammar
 use Rattle.tape.specs.Accept.{accept_of}
 use Rattle.tape.specs.Layouts.{area_layout}
-use Rattle.tape.specs.declared.header.Opened.{Opened}
-use Rattle.tape.specs.declared.header.Opened.TheVariants.{Tape, Refused}
 use Rattle.tape.specs.declared.layout.Layout.{Layout}
 use Rattle.tape.specs.declared.layout.Place.{Place}
 use Rattle.nodes.specs.Node.{name_at}
 use Rattle.nodes.specs.declared.Heading.{Heading}
 use Rattle.answer.specs.Matches.{answer_with}
 use Rattle.registry.specs.Places.{index_at, get_at}
-use Rattle.registry.specs.declared.Found.{Found}
-use Rattle.registry.specs.declared.Found.TheVariants.{Definition, Nothing}
 use Rattle.registry_held.specs.declared.Built.{Built}
 
 -- ------------------------------------------------------------------ what it holds
 
 -- the layout of an accepted tape
-abbrev pub layout_of : Opened → Layout
-layout_of (Tape l) = l
-layout_of (Refused n) = area_layout 0 0 0
+abbrev pub layout_of : Result Layout Fault → Layout
+layout_of (Ok l) = l
+layout_of (Err n) = area_layout 0 0 0
 
 -- a registry that passed holds the definitions of its tape, and another none
 pub data Holds (s : List ℕ) (b : Built) : List MacroDef → Type 0 where
   of_tape : {defs : List MacroDef} → b.answer.number ≡ 0 → read registry_root s ≡ Reading.accepted defs
-      → accept_of s grammar.definitions ≡ Tape b.layout → Holds s b defs
+      → accept_of s grammar.definitions ≡ Ok b.layout → Holds s b defs
   of_nothing : (b.answer.number ≡ 0 → ⊥) → Holds s b []
 
 -- The answer is that of the operation, and the layout that of the tape. If the number is 0, the registry holds the definitions of its
@@ -61,17 +58,17 @@ pub record Describes (s : List ℕ) (l : Layout) (h : Heading) (params : Place) 
       Stands s l.codes l.values l.text (params.at + length (flat_params d.params))
       (params.text + length (text_of (flat_params d.params))) (flat_body given)
 
-unfoldable pub FoundMatches : List ℕ → Layout → Found → Option MacroDef → Type 0
-FoundMatches s l Nothing none = Unit {0}
-FoundMatches s l Nothing (some d) = ⊥
-FoundMatches s l (Definition h params end) none = ⊥
-FoundMatches s l (Definition h params end) (some d) = Describes s l h params d
+unfoldable pub FoundMatches : List ℕ → Layout → Option (Heading × Place × ℕ) → Maybe MacroDef → Type 0
+FoundMatches s l None none = Unit {0}
+FoundMatches s l None (some d) = ⊥
+FoundMatches s l (Some (h, params, end)) none = ⊥
+FoundMatches s l (Some (h, params, end)) (some d) = Describes s l h params d
 
 -- what a name finds by the index of the tape, in a registry that passed; in another it finds nothing
-unfoldable pub found_in : List ℕ → Built → Text → Found
-found_in s b name = elim (eqb b.answer.number 0) [ true ↦ get_at s b.layout (index_at s b.layout 255) name | false ↦ Nothing ]
+unfoldable pub found_in : List ℕ → Built → Text → Option (Heading × Place × ℕ)
+found_in s b name = elim (eqb b.answer.number 0) [ true ↦ get_at s b.layout (index_at s b.layout 255) name | false ↦ None ]
 
 -- f is found so, and it is what the definition finds of the name, whatever definitions the registry holds
-pub record GetMatches (s : List ℕ) (b : Built) (name : Text) (f : Found) : Type 0 where
+pub record GetMatches (s : List ℕ) (b : Built) (name : Text) (f : Option (Heading × Place × ℕ)) : Type 0 where
   pub by_index : f ≡ found_in s b name
   pub as_defined : (defs : List MacroDef) → Holds s b defs → FoundMatches s b.layout f (get defs name)

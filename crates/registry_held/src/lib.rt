@@ -14,15 +14,15 @@ ghost use Rattle.registry_held.specs.Held.{layout_of, Builds, GetMatches};
 use answer::Answer;
 use expansion::Expanded;
 use grammar::codes::DEFINITIONS;
+use nodes::Heading;
 use registry::counts::Counts;
-use registry::{Found, index};
+use registry::index;
 use tape::accept::accept;
-use tape::header::Opened;
-use tape::layout::{Layout, of_area};
+use tape::layout::{Layout, Place, of_area};
 
 // What building a registry came to: the operation's answer, and how an accepted tape is laid out. The state is none of it: it is the
 // caller's, who has it first from `registry::counts::fresh`, and then from each expansion.
-#[derive(Clone, Copy)]
+#[derive(Clone, Copy, Debug, PartialEq, Eq)]
 pub struct Built {
     pub answer: Answer,
     pub layout: Layout,
@@ -38,23 +38,26 @@ pub struct Registry<'a> {
 fn layout_of(tape: &[u8]) -> Layout
     ensures { result ≡ layout_of (accept_of tape.now definitions) }
 {
-    match accept(tape, DEFINITIONS) {
-        Opened::Tape(l) => l,
-        Opened::Refused(_) => of_area(0, 0, 0),
-    }
+    accept(tape, DEFINITIONS).unwrap_or(of_area(0, 0, 0))
 }
 
 fn build(tape: &[u8], message: &mut [u8]) -> Built
     ensures { Builds tape.now (length message.old) message.new result }
 {
-    let registered = registry::build(tape, message);
-    let answer = registered.answer;
-    let layout = layout_of(tape);
-    Built { answer, layout }
+    let answer = registry::build(tape, message).answer;
+    Built {
+        answer,
+        layout: layout_of(tape),
+    }
 }
 
 // The definition of a name, with a table at hand.
-fn find_in(s: &[u8], l: Layout, name: &[u8], places: &mut [usize]) -> Found
+fn find_in(
+    s: &[u8],
+    l: Layout,
+    name: &[u8],
+    places: &mut [usize],
+) -> Option<(Heading, Place, usize)>
     ensures { result ≡ get_at s.now l (index_at s.now l (length places.old / 2)) name.now }
 {
     let count = index(s, l, places);
@@ -62,7 +65,7 @@ fn find_in(s: &[u8], l: Layout, name: &[u8], places: &mut [usize]) -> Found
 }
 
 // The definition of a name. A registry has 255 definitions at the most, two numbers each.
-fn find_at(s: &[u8], l: Layout, name: &[u8]) -> Found
+fn find_at(s: &[u8], l: Layout, name: &[u8]) -> Option<(Heading, Place, usize)>
     ensures { result ≡ get_at s.now l (index_at s.now l 255) name.now }
 {
     let mut places = [0usize; 510];
@@ -70,12 +73,12 @@ fn find_at(s: &[u8], l: Layout, name: &[u8]) -> Found
 }
 
 // The definition of a name in a registry that passed; one that did not holds none.
-fn find(tape: &[u8], built: Built, name: &[u8]) -> Found
+fn find(tape: &[u8], built: Built, name: &[u8]) -> Option<(Heading, Place, usize)>
     ensures { GetMatches tape.now built name.now result }
 {
     let refused = built.answer.number != 0;
     if refused {
-        return Found::Nothing;
+        return None;
     }
     find_at(tape, built.layout, name)
 }
@@ -90,7 +93,7 @@ pub fn new<'a>(tape: &'a [u8], message: &mut [u8]) -> Registry<'a>
 }
 
 // `Registry::get`: the first definition of a name, as the definition finds it.
-pub fn get<'a>(r: Registry<'a>, name: &[u8]) -> Found
+pub fn get<'a>(r: Registry<'a>, name: &[u8]) -> Option<(Heading, Place, usize)>
     ensures { GetMatches r.entry.tape.now r.entry.built name.now result }
 {
     find(r.tape, r.built, name)

@@ -8,7 +8,7 @@ use native.Mathlib.Omega.{arith}
 use borrow.Author.Tests.{le-leb, leb-true, leb-false, eqb-true, eqb-false, eq-eqb}
 use lib.Dec.{leb, eqb}
 use lib.ListN.{length, take, drop, length-append, length-take, length-drop, take-append-drop}
-use lib.Seq.{take_at, drop_at, drop-drop}
+use lib.Seq.{take_all, take_at, drop_at, drop-drop}
 use Rattle.format.specs.Entry.{le}
 use Rattle.format.specs.Tape.{from_le, Bytes}
 use Rattle.format.proofs.Accepted.{bytes_drop, le_front}
@@ -106,8 +106,9 @@ module _ (sheet : List ℕ) (cs : List (List ℕ)) (h : IsSheet sheet cs) where
   sheet_number_lem : sheet_number sheet ≡ 0
   sheet_number_lem =
       sym
-      (number_filled sheet h.short (omega (arith, sheet_length)) (omega (arith, counted, h.few))
-      (ap (λ (n : ℕ). filled_by n (drop 4 sheet)) (sym counted)
+      (number_filled sheet h.short (omega (arith, sheet_length)) (omega (arith, counted, h.few)) refl
+      (ap (filled_by (size_of sheet)) (take_all (length sheet - 4) (drop 4 sheet) (omega (arith, length-drop 4 sheet)))
+      ∙ ap (λ (n : ℕ). filled_by n (drop 4 sheet)) (sym counted)
       ∙ conditions_fill cs (drop 4 sheet) behind_count (omega (arith, length-drop 4 sheet, h.short))))
 
 pub sheets_are_opened : SheetsAreOpened

@@ -66,11 +66,15 @@ filled_one (suc n) s h e =
     rw (e, less) refl
 
 -- a turn of the loop: what is left of the slice, and one condition less
-pub filled_turn : (n w : ℕ) (s : List ℕ) {t : Bool} → 0 < n → begins_with_one s ≡ true → w ≡ width_of s → filled_by n s ≡ t
-    → filled_by (n - 1) (take (length s - w) (drop w s)) ≡ t
-filled_turn n w s h e q k =
+pub filled_turn : (n i w : ℕ) (s : List ℕ) {one t : Bool} → i < n → one ≡ begins_with_one s → one ≡ true → w ≡ width_of s
+    → filled_by (n - i) s ≡ t → filled_by (n - (i + 1)) (take (length s - w) (drop w s)) ≡ t
+filled_turn n i w s h o e q k =
     let all : take (length s - w) (drop w s) ≡ drop w s = take_all (length s - w) (drop w s) (omega (arith, length-drop w s)) in
-    ap (filled_by (n - 1)) (all ∙ ap (λ (x : ℕ). drop x s) q) ∙ sym (filled_one n s h e) ∙ k
+    let less : n - (i + 1) ≡ n - i - 1 = omega arith in
+    ap (filled_by (n - (i + 1))) (all ∙ ap (λ (x : ℕ). drop x s) q)
+    ∙ ap (λ (j : ℕ). filled_by j (drop (width_of s) s)) less
+    ∙ sym (filled_one (n - i) s (omega arith) (sym o ∙ e))
+    ∙ k
 
 pub filled_end : (n : ℕ) (s : List ℕ) → n ≤ 0 → eqb (length s) 0 ≡ filled_by n s
 unfolding filled_by

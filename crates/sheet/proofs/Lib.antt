@@ -1,6 +1,6 @@
 -- The theorems first, then what the proofs of functions cite.
 pub mod Promises
 pub mod Exactly
-mod Front
-mod Opening
-mod Stepping
+pub mod Front
+pub mod Opening
+pub mod Stepping

@@ -51,20 +51,18 @@ module _ (s : List ℕ) where
         unfolding filled
         told_filled t e = rw (le-leb 4 (length s) counted) e
 
-        pub number_filled : filled_by (size_of s) (drop 4 s) ≡ true → 0 ≡ sheet_number s
-        unfolding sheet_number
-        number_filled e = sym (rw (sheet_number, not_over, told_filled true e) refl)
+        told : {t v : Bool} → t ≡ filled_by (size_of s) (take (length s - 4) (drop 4 s)) → t ≡ v → filled s ≡ v
+        told q h =
+            let all : take (length s - 4) (drop 4 s) ≡ drop 4 s = take_all (length s - 4) (drop 4 s) (omega (arith, length-drop 4 s)) in
+            told_filled _ (ap (filled_by (size_of s)) (sym all) ∙ sym q ∙ h)
 
-        pub number_not_filled : filled_by (size_of s) (drop 4 s) ≡ false → 2 ≡ sheet_number s
+        pub number_filled : {t : Bool} → t ≡ filled_by (size_of s) (take (length s - 4) (drop 4 s)) → t ≡ true → 0 ≡ sheet_number s
         unfolding sheet_number
-        number_not_filled e = sym (rw (sheet_number, not_over, told_filled false e) refl)
+        number_filled q h = sym (rw (sheet_number, not_over, told q h) refl)
 
--- what the code finds of the conditions behind the count
-pub found_filled : (s : List ℕ) (n : ℕ) {t v : Bool} → n ≡ size_of s → t ≡ filled_by n (take (length s - 4) (drop 4 s)) → t ≡ v
-    → filled_by (size_of s) (drop 4 s) ≡ v
-found_filled s n e q h =
-    let all : take (length s - 4) (drop 4 s) ≡ drop 4 s = take_all (length s - 4) (drop 4 s) (omega (arith, length-drop 4 s)) in
-    ap (λ (k : ℕ). filled_by k (drop 4 s)) (sym e) ∙ ap (filled_by n) (sym all) ∙ sym q ∙ h
+        pub number_not_filled : {t : Bool} → t ≡ filled_by (size_of s) (take (length s - 4) (drop 4 s)) → t ≡ false → 2 ≡ sheet_number s
+        unfolding sheet_number
+        number_not_filled q h = sym (rw (sheet_number, not_over, told q h) refl)
 
 -- ------------------------------------------------------------------ the answer
 

@@ -113,3 +113,12 @@ within_budget b registry sheet p r s =
 pub charged_within : (b : Buffers) (registry sheet : List ℕ) (p : Progress) → Bytes registry → Bytes sheet → {a : Answer}
     → a ≡ expansion_answer b registry sheet p → a.charged ≤ p.budget - p.charged
 charged_within b registry sheet p r s e = omega (arith, within_budget b registry sheet p r s, ap (λ (x : Answer). x.charged) e)
+
+-- what a call of the expansion with these arguments comes to
+pub expanded_next : (b : Buffers) (registry sheet : List ℕ) (p : Progress) (before : List ℕ) {limit file : ℕ} {input after : List ℕ} {a : Answer}
+    → Bytes registry → Bytes sheet → limit ≡ limit_of p → file ≡ file_of p → input ≡ first_of (drop p.at sheet)
+    → (a ≡ expand_answer b limit file registry input) × (after ≡ expand_counts b limit file registry input before)
+    → (a ≡ expansion_answer b registry sheet p) × (after ≡ expansion_counts b registry sheet p before) × (a.charged ≤ p.budget - p.charged)
+expanded_next b registry sheet p before r s l f i e =
+    let is = expanded b registry sheet p l f i e.0 in
+    (is, counted b registry sheet p l f i before e.1, charged_within b registry sheet p r s is)

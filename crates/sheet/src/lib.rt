@@ -14,7 +14,7 @@ use expansion::expand_lent;
 
 // Where the next condition begins, how many are left, what was charged so far, the budget, and the file number. The numbers are as wide
 // as C hands them in, and `next` has an answer for any five.
-#[derive(Clone, Copy)]
+#[derive(Clone, Copy, Debug, PartialEq, Eq)]
 pub struct Progress {
     pub at: u64,
     pub left: u64,
@@ -24,23 +24,22 @@ pub struct Progress {
 }
 
 // What a step returns.
-#[derive(Clone, Copy)]
+#[derive(Clone, Copy, Debug, PartialEq, Eq)]
 pub struct Step {
     pub answer: Answer,
     pub progress: Progress,
 }
 
 // Whether a condition stands at the front of `s`: a 4-byte length, and that many bytes behind it.
+#[tactic(auto, unfolding(crate::specs::Sheet::begins_with_one, crate::specs::Sheet::size_of))]
 fn begins_with_one(s: &[u8]) -> bool
     ensures { result ≡ begins_with_one s.now }
 {
-    if s.len() < 4 {
-        return false;
-    }
-    read_size(s, 0) as usize <= s.len() - 4
+    4 <= s.len() && read_size(s, 0) as usize <= s.len() - 4
 }
 
 // That condition, or an empty one where there is none.
+#[tactic(auto, using(crate::proofs::Front::one_stands, crate::proofs::Front::first_part), unfolding(crate::specs::Sheet::first_of, crate::specs::Sheet::size_of))]
 fn first_of(s: &[u8]) -> &[u8]
     ensures { result.now ≡ first_of s.now }
 {
@@ -52,6 +51,7 @@ fn first_of(s: &[u8]) -> &[u8]
 }
 
 // How many bytes it takes, its length among them.
+#[tactic(auto, using(crate::proofs::Front::one_stands), unfolding(crate::specs::Sheet::width_of, crate::specs::Sheet::size_of))]
 fn width_of(s: &[u8]) -> usize
     ensures { (result ≡ width_of s.now) × (result ≤ length s.now) }
 {
@@ -62,24 +62,23 @@ fn width_of(s: &[u8]) -> usize
 }
 
 // Whether `s` is so many conditions and nothing else.
+#[tactic(auto, using(crate::proofs::Front::filled_none, crate::proofs::Front::filled_turn, crate::proofs::Front::filled_end))]
 fn filled_by(s: &[u8], count: u32) -> bool
     ensures { result ≡ filled_by count s.now }
 {
     let mut rest = s;
-    let mut left = count;
-    while 0 < left {
+    for _ in 0..count {
         if !begins_with_one(rest) {
             return false;
         }
         let width = width_of(rest);
         rest = &rest[width..];
-        left = left - 1;
     }
-    rest.len() == 0
+    rest.is_empty()
 }
 
 // 57, then 2; 0 for a sheet that can be gone through.
-#[tactic(auto, using(crate::proofs::Opening::number_long, crate::proofs::Opening::number_few, crate::proofs::Opening::number_many), unfolding(crate::specs::Sheet::size_of))]
+#[tactic(auto, using(crate::proofs::Opening::number_long, crate::proofs::Opening::number_few, crate::proofs::Opening::number_many, crate::proofs::Opening::number_filled, crate::proofs::Opening::number_not_filled), unfolding(crate::specs::Sheet::size_of))]
 fn check_sheet(sheet: &[u8]) -> u32
     ensures { result ≡ sheet_number sheet.now }
 {
@@ -97,6 +96,7 @@ fn check_sheet(sheet: &[u8]) -> u32
 }
 
 // The registry's refusals, then the sheet's.
+#[tactic(auto, using(crate::proofs::Opening::open_registry_refused, crate::proofs::Opening::open_sheet_refused_behind, crate::proofs::Opening::open_passes, format::proofs::Accepted::bytes_all))]
 fn answer_open(registry: &[u8], sheet: &[u8], message: &mut [u8]) -> Answer
     ensures { answer_with result [] [] message.new ≡ sheet_open_answer (length message.old) registry.now sheet.now }
 {
@@ -113,16 +113,15 @@ fn answer_open(registry: &[u8], sheet: &[u8], message: &mut [u8]) -> Answer
 }
 
 // How many conditions there are to go through: none where opening was refused.
+#[tactic(auto, unfolding(crate::specs::Sheet::conditions_left, crate::specs::Sheet::size_of))]
 fn conditions_left(sheet: &[u8], number: u32) -> u32
     ensures { result ≡ conditions_left number sheet.now }
 {
-    if number != 0 {
-        return 0;
-    }
-    read_size(sheet, 0)
+    if number == 0 { read_size(sheet, 0) } else { 0 }
 }
 
 // Opens a sheet: the answer, and the state of its start.
+#[tactic(auto, using(crate::proofs::Opening::open_progress))]
 pub fn open(registry: &[u8], sheet: &[u8], budget: u32, file: u16, message: &mut [u8]) -> Step
     ensures { (answer_with result.answer [] [] message.new ≡ sheet_open_answer (length message.old) registry.now sheet.now) × (result.progress ≡ sheet_open_progress (length message.old) registry.now sheet.now budget file) }
 {
@@ -141,34 +140,25 @@ pub fn open(registry: &[u8], sheet: &[u8], budget: u32, file: u16, message: &mut
 }
 
 // What is left of the budget.
+#[tactic(auto, unfolding(crate::specs::Sheet::limit_of))]
 fn limit_of(p: Progress) -> u32
     ensures { result ≡ limit_of p }
 {
-    if p.budget <= p.charged {
-        return 0;
-    }
-    let left = p.budget - p.charged;
-    if 4294967295 < left {
-        4294967295
-    } else {
-        left as u32
-    }
+    p.budget.saturating_sub(p.charged).min(0xFFFF_FFFF) as u32
 }
 
+#[tactic(auto, unfolding(crate::specs::Sheet::file_of))]
 fn file_of(p: Progress) -> u16
     ensures { result ≡ file_of p }
 {
-    if 65535 < p.file { 65535 } else { p.file as u16 }
+    p.file.min(0xFFFF) as u16
 }
 
 // What is left of a sheet from a place on.
 fn rest_of(sheet: &[u8], at: u64) -> &[u8]
     ensures { result.now ≡ drop at sheet.now }
 {
-    let start = at as usize;
-    if sheet.len() < start {
-        return &sheet[..0];
-    }
+    let start = (at as usize).min(sheet.len());
     &sheet[start..]
 }
 
@@ -213,17 +203,18 @@ fn expand_next<'a>(
 }
 
 // A sheet that is done has nothing to expand.
+#[tactic(auto, using(crate::proofs::Stepping::done_short, crate::proofs::Stepping::done_long))]
 fn answer_done(res: &mut [u8], work: &mut [u8], message: &mut [u8]) -> Answer
     ensures { answer_with result res.new work.new message.new ≡ tree_answer (buffers (length res.old) (length work.old) (length message.old)) (number_alone 0) }
 {
-    if !long_buffers(res.len(), work.len(), message.len()) {
-        return number_alone(1, 0, res, work, message);
-    }
-    number_alone(0, 0, res, work, message)
+    let long = long_buffers(res.len(), work.len(), message.len());
+    let number = if long { 0 } else { 1 };
+    number_alone(number, 0, res, work, message)
 }
 
 // A step: the next condition's expansion, and the state behind it, in which its charge stays, refused or not. When none is left the state
 // stays as it is.
+#[tactic(auto, using(crate::proofs::Stepping::done_answer, crate::proofs::Stepping::done_progress, crate::proofs::Stepping::done_counts, crate::proofs::Stepping::next_is_expansion, crate::proofs::Stepping::next_progress, crate::proofs::Stepping::next_hands_on))]
 pub fn next<'a>(
     registry: &'a [u8],
     sheet: &'a [u8],

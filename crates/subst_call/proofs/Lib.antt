@@ -1,3 +1,2 @@
 -- The laws that several proofs of the crate cite.
-mod Called
 pub mod TreesFront

@@ -1,5 +1,6 @@
 -- One definition and one call, where they stand: the front of a substitution does what the tree's definition says.
 -- Assumes nothing.
+use Rattle.std.proofs.Common.{Some, Ok}
 use Prim.Native.Nat.{ℕ, ◌%◌, ◌^◌, ◌≤◌, ◌<◌}
 use native.Mathlib.Omega.{arith}
 use mathlib.Core.Path.{◌≡◌, refl, sym, ap}
@@ -39,7 +40,6 @@ use Rattle.tape.specs.declared.layout.Layout.{Layout}
 use Rattle.tape.specs.declared.layout.Place.{Place}
 use Rattle.nodes.specs.declared.BodyNode.{BodyNode}
 use Rattle.nodes.specs.declared.BodyNode.TheVariants as body
-use Rattle.nodes.specs.declared.BodyRead.TheVariants as br
 use Rattle.nodes.specs.declared.Heading.{Heading}
 use Rattle.nodes.specs.declared.Name.{Name}
 use Rattle.tape.proofs.Located.{past, past_at, Inside, inside_size}
@@ -75,7 +75,6 @@ use Rattle.subst_call.specs.Front.{
 }
 use Rattle.subst_walk.specs.Walkers.{walkers}
 use Rattle.subst_call.specs.declared.Macro.{Macro}
-use Rattle.subst_call.specs.declared.MacroRead.TheVariants as macro
 use Rattle.subst_places.proofs.TreesWalk.{Written, written_none, written_inside, RefusalMatchesIn, WalkMatches, writes, stops, starting, ending, reaching, bind_matches, map_matches, regrouped, AllDone}
 use Rattle.subst_places.proofs.TreesBound.{Bound}
 use Rattle.subst_places.proofs.TreesPlaces.{charged_matches}
@@ -166,7 +165,7 @@ kind_of (MacroBody.TemporalCondition c) = body.Condition
 kind_of (MacroBody.TemporalValue t) = body.Value
 
 body_at_lem : {s : List ℕ} {l : Layout} {p : Place} (b : MacroBody) → Inside s l p (flat_body b)
-    → body_at s l p ≡ br.Node (kind_of b) (past (body_head b ∷ []) p)
+    → body_at s l p ≡ Ok (kind_of b, past (body_head b ∷ []) p)
 unfolding flat_body
 body_at_lem MacroBody.Cedar h = parts_body MacroBody.Cedar h
 body_at_lem (MacroBody.TemporalCondition c) h = (parts_body (MacroBody.TemporalCondition c) h).read
@@ -196,12 +195,12 @@ module _ (dm : MacroDef) {def : List ℕ} {l : Layout} {p : Place} (h : Inside d
       }
 
   -- the body ends where the definition ends
-  pub macro_from_lem : {end : ℕ} → end ≡ (past (flat_def dm) p).at → macro_from def l def_head params end ≡ macro.Macro (called dm.body)
+  pub macro_from_lem : {end : ℕ} → end ≡ (past (flat_def dm) p).at → macro_from def l def_head params end ≡ Some (called dm.body)
   macro_from_lem e =
       let d = (parts_def dm h).parts in
       rw (past_params dm.params d.runs.first, body_at_lem dm.body d.runs.second, e, d.runs.ends)
 
-  pub macro_at_lem : l.entries ≡ (past (flat_def dm) p).at → macro_at def l p ≡ macro.Macro (called dm.body)
+  pub macro_at_lem : l.entries ≡ (past (flat_def dm) p).at → macro_at def l p ≡ Some (called dm.body)
   unfolding macro_at
   macro_at_lem e = rw (parts_def dm h).parts.read (macro_from_lem e)
 

@@ -1,6 +1,6 @@
 -- The front of a substitution: which macro is called, what is charged for its body, and whether the result is too large.
 -- Assumes nothing.
-use Rattle.std.specs.Prelude.{ℕ, ◌||◌, List, eqb, replicate}
+use Rattle.std.specs.Prelude.{ℕ, ◌||◌, List, eqb, replicate, Option, Some, None}
 use Rattle.grammar.specs.Grammar as grammar
 use Rattle.tape.specs.Pick.{pick}
 use Rattle.tape.specs.Layouts.{area_layout, size_between}
@@ -22,8 +22,6 @@ use Rattle.subst_state.specs.Output.{charged_for}
 use Rattle.subst_places.specs.Parameters.{Tapes, tapes}
 use Rattle.subst_walk.specs.Walkers.{walkers}
 use Rattle.subst_call.specs.declared.Macro.{Macro}
-use Rattle.subst_call.specs.declared.MacroRead.{MacroRead}
-use Rattle.subst_call.specs.declared.MacroRead.TheVariants as macro
 use Rattle.subst_state.specs.declared.maps.SubstMaps.{SubstMaps}
 use Rattle.walk_state.specs.declared.writing.State.{State}
 use Rattle.walk_state.specs.declared.writing.Walk.{Walk}
@@ -31,25 +29,25 @@ use Rattle.walk_state.specs.declared.writing.Walk.TheVariants as walk
 
 -- ------------------------------------------------------------------ cases
 
-abbrev pub on_macro : {A : Type 0} → A → (Macro → A) → MacroRead → A
-on_macro none f (macro.Macro called) = f called
-on_macro none f macro.Nothing = none
+abbrev pub on_macro : {A : Type 0} → A → (Macro → A) → Option Macro → A
+on_macro none f (Some called) = f called
+on_macro none f None = none
 
 -- ------------------------------------------------------------------ a macro
 
 -- the one whose definition has this head, its parameters at this place, and ends in front of this entry
-abbrev pub macro_from : List ℕ → Layout → Heading → Place → ℕ → MacroRead
+abbrev pub macro_from : List ℕ → Layout → Heading → Place → ℕ → Option Macro
 macro_from s l head params end =
-    on_place macro.Nothing
+    on_place None
     (λ next.
-    on_body macro.Nothing
-    (λ kind body. macro.Macro (record { head = head; params = params; kind = kind; body = body; end = end }))
+    on_body None
+    (λ kind body. Some (record { head = head; params = params; kind = kind; body = body; end = end }))
     (body_at s l next))
     (past_params_at s l params head.count)
 
 -- a definition behind which nothing stands
-unfoldable pub macro_at : List ℕ → Layout → Place → MacroRead
-macro_at s l p = on_heading macro.Nothing (λ head params. macro_from s l head params l.entries) (heading_at s l p 60)
+unfoldable pub macro_at : List ℕ → Layout → Place → Option Macro
+macro_at s l p = on_heading None (λ head params. macro_from s l head params l.entries) (heading_at s l p 60)
 
 abbrev pub wrong_count : Heading → Heading → Refused
 wrong_count def call = refused_at call.span (ArgumentCount def.name def.count call.count)

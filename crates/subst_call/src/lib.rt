@@ -8,19 +8,20 @@ ghost use Rattle.walk_state.specs.Writing.{progress};
 ghost use Rattle.subst_places.specs.Parameters.{tapes};
 
 use area::{Writer, empty};
+use grammar::code;
 use grammar::codes::{CONDITION, TERM};
 use messages::{Reason, Refused, refuse};
-use nodes::{BodyNode, BodyRead, Heading, HeadingRead, past_params, read_body, read_heading};
+use nodes::{BodyNode, Heading, past_params, read_body, read_heading};
 use subst_state::maps::{SubstMaps, find_arguments};
 use subst_state::paste::charge_nodes;
 use subst_walk::{subst_temporal_condition, subst_temporal_term};
 use tape::layout::{Layout, Place, of_area};
-use tape::scan::{Skipped, too_deep};
+use tape::scan::too_deep;
 use tape::text::size;
 use walk_state::writing::{State, Walk, without_message};
 
 // A macro: its definition's head, where its parameters stand, the kind and the place of its body, and the entry behind it.
-#[derive(Clone, Copy)]
+#[derive(Clone, Copy, Debug, PartialEq, Eq)]
 pub struct Macro {
     pub head: Heading,
     pub params: Place,
@@ -29,24 +30,14 @@ pub struct Macro {
     pub end: usize,
 }
 
-#[derive(Clone, Copy)]
-pub enum MacroRead {
-    Macro(Macro),
-    Nothing,
-}
-
 // The macro of a definition whose head was read, with the place of its parameters and the entry behind it. Expansion finds both in the
 // registry's index.
-pub fn macro_from(s: &[u8], l: Layout, head: Heading, params: Place, end: usize) -> MacroRead
+pub fn macro_from(s: &[u8], l: Layout, head: Heading, params: Place, end: usize) -> Option<Macro>
     ensures { result ≡ macro_from s.now l head params end }
 {
-    let Skipped::At(next) = past_params(s, l, params, head.count) else {
-        return MacroRead::Nothing;
-    };
-    let BodyRead::Node(kind, body) = read_body(s, l, next) else {
-        return MacroRead::Nothing;
-    };
-    MacroRead::Macro(Macro {
+    let next = past_params(s, l, params, head.count)?;
+    let (kind, body) = read_body(s, l, next).ok()?;
+    Some(Macro {
         head,
         params,
         kind,
@@ -56,12 +47,11 @@ pub fn macro_from(s: &[u8], l: Layout, head: Heading, params: Place, end: usize)
 }
 
 // The definition that stands at a place, and behind which nothing stands.
-fn read_macro(s: &[u8], l: Layout, p: Place) -> MacroRead
+#[tactic(auto, unfolding(crate::specs::Front::macro_at))]
+fn read_macro(s: &[u8], l: Layout, p: Place) -> Option<Macro>
     ensures { result ≡ macro_at s.now l p }
 {
-    let HeadingRead::Node(head, params) = read_heading(s, l, p, 60) else {
-        return MacroRead::Nothing;
-    };
+    let (head, params) = read_heading(s, l, p, code::DEFINITION).ok()?;
     macro_from(s, l, head, params, l.entries)
 }
 
@@ -69,14 +59,14 @@ fn read_macro(s: &[u8], l: Layout, p: Place) -> MacroRead
 pub fn wrong_count(def: Heading, call: Heading) -> Refused
     ensures { result ≡ wrong_count def call }
 {
-    let name = def.name;
     refuse(
         call.span,
-        Reason::ArgumentCount(name, def.count, call.count),
+        Reason::ArgumentCount(def.name, def.count, call.count),
     )
 }
 
 // The size of the body, which stands up to `end`, is charged.
+#[tactic(auto, unfolding(crate::specs::Front::charge_body_in))]
 fn charge_body(def: &[u8], m: SubstMaps, end: usize, st: State) -> Walk
     ensures { result ≡ charge_body_in def.now m end st }
 {
@@ -85,6 +75,7 @@ fn charge_body(def: &[u8], m: SubstMaps, end: usize, st: State) -> Walk
 }
 
 // 3, if what was written is over a largest figure.
+#[tactic(auto, unfolding(crate::specs::Front::refuse_too_large_in))]
 pub fn refuse_too_large(span: u64, sort: u64, buf: &[u8], w: Walk) -> Walk
     ensures { progress result buf.now ≡ refuse_too_large_in span sort (progress w buf.now) }
 {
@@ -92,15 +83,13 @@ pub fn refuse_too_large(span: u64, sort: u64, buf: &[u8], w: Walk) -> Walk
         return w;
     };
     let out = st.out;
-    if out.overflowed {
-        return without_message(3, span, st.charged);
-    }
-    if too_deep(buf, of_area(out.base, out.n, out.t), sort) {
+    if out.overflowed || too_deep(buf, of_area(out.base, out.n, out.t), sort) {
         return without_message(3, span, st.charged);
     }
     w
 }
 
+#[tactic(auto, unfolding(crate::specs::Front::temporal_condition_in))]
 fn substitute_temporal_condition<'a>(
     def: &'a [u8],
     call: &'a [u8],
@@ -116,6 +105,7 @@ fn substitute_temporal_condition<'a>(
 }
 
 // A value body's terms outside aggregates have the call's span.
+#[tactic(auto, unfolding(crate::specs::Front::temporal_value_in))]
 fn substitute_temporal_value<'a>(
     def: &'a [u8],
     call: &'a [u8],
@@ -130,6 +120,7 @@ fn substitute_temporal_value<'a>(
     refuse_too_large(m.call_span, TERM, buf, r)
 }
 
+#[tactic(auto, unfolding(crate::specs::Front::substitute_body_in))]
 fn substitute_body<'a>(
     def: &'a [u8],
     call: &'a [u8],
@@ -158,6 +149,7 @@ fn substitute_body<'a>(
 
 // What one call of a macro becomes, appended to an area of a buffer: the body's charge, the walk, and 3. `head` is the call's head, and
 // its arguments stand from `first` on; there are as many as the macro has parameters, sixteen at the most.
+#[tactic(auto, unfolding(crate::specs::Front::call_in))]
 pub fn substitute_call<'a>(
     def: &'a [u8],
     d: Layout,
@@ -176,29 +168,26 @@ pub fn substitute_call<'a>(
 {
     let mut args = [0usize; 96];
     find_arguments(call, c, first, head.count, &mut args);
-    let params = called.params;
-    let macro_name = called.head.name;
     let m = SubstMaps {
         definition: d,
         call: c,
-        params,
+        params: called.params,
         count: called.head.count,
-        macro_name,
+        macro_name: called.head.name,
         call_span: head.span,
         limit,
         file,
     };
-    let place = called.body;
     let st = State {
-        place,
+        place: called.body,
         out,
         charged,
     };
-    let kind = called.kind;
-    substitute_body(def, call, &args, buf, m, kind, called.end, st)
+    substitute_body(def, call, &args, buf, m, called.kind, called.end, st)
 }
 
 // Cedar is 31, another number of arguments 34; then the call, whose outcome is written to the area at the start of the buffer.
+#[tactic(auto, unfolding(crate::specs::Front::tapes_in))]
 pub fn substitute_tapes<'a>(
     def: &'a [u8],
     d: Layout,
@@ -211,28 +200,28 @@ pub fn substitute_tapes<'a>(
     ensures { progress result buf.new ≡ tapes_in def.now d call.now c limit file buf.old }
 {
     let origin = Place { at: 0, text: 0 };
-    let MacroRead::Macro(called) = read_macro(def, d, origin) else {
+    let Some(called) = read_macro(def, d, origin) else {
         return without_message(2, 0, 0);
     };
-    let HeadingRead::Node(head, first) = read_heading(call, c, origin, 54) else {
+    let Ok((head, first)) = read_heading(call, c, origin, code::CALLED) else {
         return without_message(2, 0, 0);
     };
-    let kind = called.kind;
-    match kind {
+    match called.kind {
         BodyNode::Cedar => cedar(head),
-        BodyNode::Condition => counted(def, d, call, c, limit, file, called, head, first, buf),
-        BodyNode::Value => counted(def, d, call, c, limit, file, called, head, first, buf),
+        BodyNode::Condition | BodyNode::Value => {
+            counted(def, d, call, c, limit, file, called, head, first, buf)
+        }
     }
 }
 
 fn cedar(head: Heading) -> Walk
     ensures { result ≡ cedar_at head }
 {
-    let name = head.name;
-    Walk::Refused(refuse(head.span, Reason::CedarInCondition(name)), 0)
+    Walk::Refused(refuse(head.span, Reason::CedarInCondition(head.name)), 0)
 }
 
 // A call of a macro that is no Cedar macro.
+#[tactic(auto, unfolding(crate::specs::Front::counted_in))]
 fn counted<'a>(
     def: &'a [u8],
     d: Layout,
@@ -250,8 +239,18 @@ fn counted<'a>(
     if called.head.count != head.count {
         return Walk::Refused(wrong_count(called.head, head), 0);
     }
-    let out = empty(0);
     substitute_call(
-        def, d, call, c, limit, file, called, head, first, 0, buf, out,
+        def,
+        d,
+        call,
+        c,
+        limit,
+        file,
+        called,
+        head,
+        first,
+        0,
+        buf,
+        empty(0),
     )
 }

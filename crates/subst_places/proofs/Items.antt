@@ -1,8 +1,8 @@
 -- Items one after the other, up to the first refusal: what a loop over them comes to.
 -- Assumes nothing.
-use Prim.Native.Nat.{ℕ, zero, suc, ◌-◌, ◌<◌, ◌≤◌}
+use Prim.Native.Nat.{ℕ, zero, suc, ◌+◌, ◌-◌, ◌<◌, ◌≤◌}
 use native.Mathlib.Omega.{arith}
-use mathlib.Core.Path.{◌≡◌, sym, ap, ◌∙◌}
+use mathlib.Core.Path.{◌≡◌, refl, ap}
 use mathlib.Core.List.{List}
 use Rattle.messages.specs.declared.Refused.{Refused}
 use Rattle.walk_state.specs.Writing.{Progress, progress}
@@ -11,24 +11,21 @@ use Rattle.walk_state.specs.declared.writing.Walk.{Walk}
 use Rattle.walk_state.specs.declared.writing.Walk.TheVariants as walk
 use Rattle.subst_places.specs.Parameters.{items_in}
 
--- f hands a refusal on
+-- a loop over n items, with j of them walked
 module _ (f : Progress → Progress) (bytes : List ℕ) where
-  pub refused_items : (n : ℕ) {w : Walk} {r : Refused} {k : ℕ} → w ≡ walk.Refused r k → progress w bytes ≡ items_in f n (progress w bytes)
+  -- a refusal is handed on
+  pub hands_on : (n : ℕ) (r : Refused) (k : ℕ) → items_in f n (progress (walk.Refused r k) bytes) ≡ progress (walk.Refused r k) bytes
   unfolding items_in
-  refused_items zero e = rw e
-  refused_items (suc n) e = rw e
+  hands_on zero r k = refl
+  hands_on (suc n) r k = refl
 
-  pub no_items : {n : ℕ} (w : Walk) → n ≤ 0 → progress w bytes ≡ items_in f n (progress w bytes)
+  -- none is left
+  pub no_more : (n j : ℕ) (w : Walk) → n ≤ j → items_in f (n - j) (progress w bytes) ≡ progress w bytes
   unfolding items_in
-  no_items {n} w h = let e : n ≡ 0 = omega arith in rw e
+  no_more n j w h = let e : n - j ≡ 0 = omega (arith, h) in ap (λ (m : ℕ). items_in f m (progress w bytes)) e
 
-  -- a turn of a loop over items
-  pub one_item : {n : ℕ} {w : Walk} {st : State} {X Z : Progress} → w ≡ walk.Going st → 0 < n → X ≡ f (progress w bytes)
-      → items_in f n (progress w bytes) ≡ Z → items_in f (n - 1) X ≡ Z
+  -- a turn of the loop
+  pub item_walked : (n j : ℕ) (st : State) → j < n
+      → items_in f (n - j) (progress (walk.Going st) bytes) ≡ items_in f (n - (j + 1)) (f (progress (walk.Going st) bytes))
   unfolding items_in
-  one_item {n} {w} {st} p h e q =
-      let s : suc (n - 1) ≡ n = omega arith in
-      ap (items_in f (n - 1)) (e ∙ rw p)
-      ∙ ap (λ (k : ℕ). items_in f k (progress (walk.Going st) bytes)) s
-      ∙ ap (λ (v : Walk). items_in f n (progress v bytes)) (sym p)
-      ∙ q
+  item_walked n j st h = let e : n - j ≡ suc (n - (j + 1)) = omega (arith, h) in ap (λ (m : ℕ). items_in f m (progress (walk.Going st) bytes)) e

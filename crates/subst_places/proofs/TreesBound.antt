@@ -1,10 +1,11 @@
 -- A call's arguments where the table says: what a name finds there is what the tree's definition finds.
 -- Assumes nothing.
+use Rattle.std.proofs.Common.{Some, None, Option}
 use Prim.Native.Nat.{ℕ}
 use mathlib.Core.Path.{◌≡◌, refl}
 use mathlib.Core.List.{List, [], ◌∷◌}
 use mathlib.Core.Bool.{Bool, true, false, ◌&&◌, ◌||◌}
-use mathlib.Core.Option.{Option, none, some}
+use mathlib.Core.Option.{Option as Maybe, none, some}
 use lib.Dec.{leb}
 use Rattle.format.specs.Entry.{Text, Entry}
 use Rattle.format.specs.Ast.{TimeUnit, Condition, Term, CallArg}
@@ -18,8 +19,6 @@ use Rattle.tape.proofs.Located.{past, Inside}
 use Rattle.subst_state.specs.Arguments.{arg_for}
 use Rattle.subst_places.specs.Parameters.{Tapes}
 use Rattle.subst_state.specs.declared.maps.Argument.{Argument}
-use Rattle.subst_state.specs.declared.maps.Found.{Found}
-use Rattle.subst_state.specs.declared.maps.Found.TheVariants as found
 
 -- ------------------------------------------------------------------ roots
 
@@ -109,7 +108,7 @@ ranges_unit TimeUnit.Days = (refl, refl, refl)
 ranges_unit TimeUnit.Weeks = (refl, refl, refl)
 
 -- an argument is an identifier exactly where its root is 27
-pub data Identifies : CallArg → Option Text → Bool → Type 0 where
+pub data Identifies : CallArg → Maybe Text → Bool → Type 0 where
   is_name : {n : Text} → Identifies (CallArg.TermArg (Term.Var n)) (some n) true
   no_name : {a : CallArg} → Identifies a none false
 
@@ -170,9 +169,9 @@ module _ (s : List ℕ) (l : Layout) where
     pub its_root : arg.root ≡ root_of a
     pub its_size : arg.size ≡ call_arg_size a
 
-  pub data FoundIs (o : Option CallArg) (x : Found) : Type 0 where
-    nothing : o ≡ none → x ≡ found.Nothing → FoundIs o x
-    argument : (a : CallArg) (arg : Argument) → o ≡ some a → x ≡ found.Argument arg → ArgumentIs a arg → FoundIs o x
+  pub data FoundIs (o : Maybe CallArg) (x : Option Argument) : Type 0 where
+    nothing : o ≡ none → x ≡ None → FoundIs o x
+    argument : (a : CallArg) (arg : Argument) → o ≡ some a → x ≡ Some arg → ArgumentIs a arg → FoundIs o x
 
 -- the root that the row has
 pub ranged : {s : List ℕ} {l : Layout} {a : CallArg} {arg : Argument} {c t i : Bool} → ArgumentIs s l a arg → Ranges (root_of a) c t i

@@ -1,5 +1,6 @@
 -- The fold of a refinement: the count of the predicate's fields is raised in place, and of any other condition it is 47.
 -- Assumes nothing.
+use Rattle.std.proofs.Common.{Option, Some, None}
 use Prim.Native.Nat.{ℕ, ◌+◌, ◌≤◌}
 use native.Mathlib.Omega.{arith}
 use mathlib.Core.Path.{◌≡◌, refl, sym, ap, ◌∙◌}
@@ -25,8 +26,6 @@ use Rattle.tape.specs.Pick.{pick}
 use Rattle.tape.specs.Layouts.{area_layout}
 use Rattle.nodes.specs.Node.{on_value, expect_at}
 use Rattle.tape.specs.declared.layout.Place.{Place}
-use Rattle.nodes.specs.declared.ValueRead.{ValueRead}
-use Rattle.nodes.specs.declared.ValueRead.TheVariants.{Value, Nothing}
 use Rattle.tape.proofs.Located.{Inside}
 use Rattle.nodes.proofs.Entries.{is_expected}
 use Rattle.nodes.proofs.Placed.{predicate_head}
@@ -70,9 +69,9 @@ module _ (base count : ℕ) (P : Area) where
       below true i = one i
       below false i = none
 
-      found : (v : ValueRead) → M (on_value P (λ namespace next. pick (ltb namespace 1024) (patch_in (base + 5 + namespace) count P) P) v)
-      found (Value namespace next) = below (ltb namespace 1024) (base + 5 + namespace)
-      found Nothing = none
+      found : (v : Option (ℕ × Place)) → M (on_value P (λ namespace next. pick (ltb namespace 1024) (patch_in (base + 5 + namespace) count P) P) v)
+      found (Some (namespace, next)) = below (ltb namespace 1024) (base + 5 + namespace)
+      found None = none
 
       test : (b : Bool) → M (pick b (on_value P (λ namespace next. pick (ltb namespace 1024) (patch_in (base + 5 + namespace) count P) P)
           (expect_at P.bytes (area_layout P.out.base P.out.n P.out.t) (place (base + 2) 0) 41)) P)

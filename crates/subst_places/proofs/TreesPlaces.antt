@@ -1,11 +1,12 @@
 -- The places of a parameter and of a binder's name, where they stand in a body: a `?` gives the argument or the definition's refusal,
 -- a `$` the generated name, and all else is kept.
 -- Assumes nothing.
+use Rattle.std.proofs.Common.{Some, None, Result, Ok, Err}
 use Prim.Native.Nat.{ℕ, suc, ◌+◌}
 use mathlib.Core.Path.{◌≡◌, refl, sym, ap, ◌∙◌}
 use mathlib.Core.List.{List, [], ◌∷◌, ◌++◌, append-nil, append_assoc}
 use mathlib.Core.Bool.{Bool, true, false}
-use mathlib.Core.Option.{Option}
+use mathlib.Core.Option.{Option as Maybe}
 use lib.Dec.{leb}
 use native.Mathlib.Omega.{arith}
 use lib.ListN.{length, length-append}
@@ -78,7 +79,6 @@ use Rattle.subst_places.specs.Parameters.{
   binders_in,
 }
 use Rattle.subst_state.specs.declared.maps.Argument.{Argument}
-use Rattle.subst_state.specs.declared.maps.Charged.TheVariants.{Paid, Exceeded}
 use Rattle.walk_state.specs.declared.writing.State.{State}
 use Rattle.walk_state.specs.declared.writing.Walk.TheVariants as walk
 use Rattle.subst_places.specs.declared.places.Interval.{Interval}
@@ -182,7 +182,7 @@ module _ {T : Tapes} {maps : SubstMaps} (B : Bound T maps) where
     where
       go : (b : Bool) → WalkMatches T (λ (u : Unit {0}). []) P es
           (progress (on_charged (refused_at maps.call_span (Budget maps.limit)) (state p P.out k)
-          (pick b (Paid (k + nodes)) Exceeded)) P.bytes) p
+          (pick b (Some (k + nodes)) None)) P.bytes) p
           (elim b [
             | true ↦ Outcome.done tt (k + nodes)
             | false ↦ Outcome.refused (refusal 35 maps.call_span (budget_exceeded maps.limit)) k
@@ -249,7 +249,7 @@ module _ {T : Tapes} {maps : SubstMaps} (B : Bound T maps) where
         (rw (ranged h (ranges_unit i.unit)).1 (stops T (kind_refusal_matches span name e NotATerm 45 not_a_term (λ m n. refl) (λ t c m n. refl))))
 
     -- in a slot's place: the argument's name, if it is one
-    slot_found : {a : CallArg} {o : Option Text} {b : Bool} (arg : Argument) (p : Place)
+    slot_found : {a : CallArg} {o : Maybe Text} {b : Bool} (arg : Argument) (p : Place)
         (k : ℕ) {P : Area} {es : List Entry} {next : Place} → Written P es
         → Identifies a o b → has_root arg 27 27 ≡ b → identifier a ≡ o → ArgumentIs T.call T.maps.call a arg
         → WalkMatches T flat_slot_list P es
@@ -358,12 +358,12 @@ module _ {T : Tapes} {maps : SubstMaps} (B : Bound T maps) where
   -- ------------------------------------------------------------------ withins
 
   -- what an interval stands for
-  pub data WithinMatches (p end : Place) (k : ℕ) : Interval → Outcome WithinSpec → Type 0 where
+  pub data WithinMatches (p end : Place) (k : ℕ) : Result Interval Refused → Outcome WithinSpec → Type 0 where
     own : {w : WithinSpec} → Inside T.definition T.maps.definition p (flat_within w ∷ []) → end ≡ past (flat_within w ∷ []) p
-        → WithinMatches p end k (interval.Own end) (Outcome.done w k)
+        → WithinMatches p end k (Ok (interval.Own end)) (Outcome.done w k)
     given : {i : Duration} {arg : Argument} → ArgumentIs T.call T.maps.call (CallArg.WithinArg i) arg
-        → WithinMatches p end k (interval.Given arg end) (Outcome.done (WithinSpec.Concrete i) k)
-    refused : {f : Refused} {r : Refusal} → RefusalMatchesIn T f r → WithinMatches p end k (interval.Refused f) (Outcome.refused r k)
+        → WithinMatches p end k (Ok (interval.Given arg end)) (Outcome.done (WithinSpec.Concrete i) k)
+    refused : {f : Refused} {r : Refusal} → RefusalMatchesIn T f r → WithinMatches p end k (Err f) (Outcome.refused r k)
 
   param_within : (span : ℕ) (name : Name) {n : Text} (p end : Place) (k : ℕ) → spells name ≡ n → Finds name n
       → WithinMatches p end k (param_within_in T.definition T.table T.maps span name end) (subst_within maps (WithinSpec.ParamRef n) span k)
@@ -387,7 +387,7 @@ module _ {T : Tapes} {maps : SubstMaps} (B : Bound T maps) where
       let v = parts_within (WithinSpec.ParamRef n) h in
       rw v.read (param_within span v.name p _ k v.spelled (B.finds v.name v.spelled))
 
-  pub within_matches : {p end : Place} {k : ℕ} {i : Interval} {o : Outcome WithinSpec} {P : Area} {es : List Entry} → WithinMatches p end k i o
+  pub within_matches : {p end : Place} {k : ℕ} {i : Result Interval Refused} {o : Outcome WithinSpec} {P : Area} {es : List Entry} → WithinMatches p end k i o
       → Written P es
       → WalkMatches T flat_within_list P es (put_within_in T.definition T.call T.maps i k (going p k P)) end o
   unfolding put_within_in entries_of flat_within

@@ -1,12 +1,13 @@
 -- The table of a call's arguments has a row for each, and a name finds there what the tree's definition finds: the argument of the last
 -- parameter that has it.
 -- Assumes nothing.
+use Rattle.std.proofs.Common.{Some, None, Ok, Option}
 use Prim.Native.Nat.{ℕ, zero, suc, ◌+◌, ◌*◌, ◌%◌, ◌≤◌, ◌<◌}
 use native.Mathlib.Omega.{arith}
 use mathlib.Core.Path.{◌≡◌, refl, sym, ap, ◌∙◌, subst}
 use mathlib.Core.List.{List, [], ◌∷◌}
 use mathlib.Core.Bool.{Bool, true, false}
-use mathlib.Core.Option.{Option, none, some}
+use mathlib.Core.Option.{Option as Maybe, none, some}
 use lib.Dec.{leb}
 use lib.ListN.{length, get_or, set, length-set}
 use lib.Seq.{sets, length-sets, get_or-set_same, get_or-set_other}
@@ -25,23 +26,18 @@ use Rattle.nodes.specs.Node.{name_at, entry_at, argument_at}
 use Rattle.tape.specs.declared.layout.Layout.{Layout}
 use Rattle.tape.specs.declared.layout.Place.{Place}
 use Rattle.nodes.specs.declared.Name.{Name}
-use Rattle.nodes.specs.declared.EntryRead.TheVariants as read
 use Rattle.tape.proofs.Located.{past, Inside, inside_skip, inside_size}
 use Rattle.nodes.proofs.Entries.{is_entry}
 use Rattle.nodes.proofs.Placed.{heading_entries, parts_arg, parts_args, parts_call, parts_params, parts_def}
 use Rattle.tape.proofs.Trees.{passes_condition, passes_term, passes_interval}
 use Rattle.tape.specs.Layouts.{size_between}
 use Rattle.tape.specs.Scan.{skip_at}
-use Rattle.tape.specs.declared.scan.Skipped.TheVariants.{At}
 use Rattle.nodes.specs.declared.ArgNode.{ArgNode}
 use Rattle.nodes.specs.declared.ArgNode.TheVariants as kind
-use Rattle.nodes.specs.declared.ArgRead.TheVariants as ar
 use Rattle.nodes.specs.Node.{param_at}
 use Rattle.subst_state.specs.Arguments.{on_found, sort_of, measure_at, row_of, table_from, argument_in, search_from, arg_for}
 use Rattle.subst_places.specs.Parameters.{Tapes, tapes}
 use Rattle.subst_state.specs.declared.maps.Argument.{Argument}
-use Rattle.subst_state.specs.declared.maps.Found.{Found}
-use Rattle.subst_state.specs.declared.maps.Found.TheVariants as found
 use Rattle.subst_places.proofs.TreesBound.{root_condition, root_term, root_of, between, ranges_condition, ranges_term, entries_of, ArgumentIs, FoundIs, nothing, argument, Bound}
 
 -- ------------------------------------------------------------------ an argument, measured
@@ -50,7 +46,7 @@ use Rattle.subst_places.proofs.TreesBound.{root_condition, root_term, root_of, b
 pub record Rooted (s : List ℕ) (l : Layout) (p : Place) (root : ℕ) : Type 0 where
   pub value : ℕ
   pub next : Place
-  pub reads : entry_at s l p ≡ read.Entry root value next
+  pub reads : entry_at s l p ≡ Some (root, value, next)
 
 module _ {s : List ℕ} {l : Layout} where
   rooted : {p : Place} (e : Entry) {es : List Entry} → Inside s l p (e ∷ es) → Rooted s l p e.code
@@ -92,15 +88,15 @@ module _ {s : List ℕ} {l : Layout} where
 -- what is measured at a place is the argument that stands there, and it ends where the next one starts
 record Measured (s : List ℕ) (l : Layout) (p : Place) (a : CallArg) : Type 0 where
   pub arg : Argument
-  pub measures : measure_at s l p ≡ found.Argument arg
+  pub measures : measure_at s l p ≡ Some arg
   pub is : ArgumentIs s l a arg
   pub ends : arg.to ≡ past (flat_arg a) p
 
 module _ {s : List ℕ} {l : Layout} {p : Place} where
   -- the entries behind the one that announces the argument
-  measured_as : (a : CallArg) (k : ArgNode) {q : Place} → argument_at s l p ≡ ar.Node k q → Inside s l q (entries_of a)
+  measured_as : (a : CallArg) (k : ArgNode) {q : Place} → argument_at s l p ≡ Ok (k, q) → Inside s l q (entries_of a)
       → Rooted s l q (root_of a)
-      → skip_at s l q (sort_of k) ≡ At (past (entries_of a) q) → size (entries_of a) ≡ call_arg_size a → past (flat_arg a) p ≡ past (entries_of a) q
+      → skip_at s l q (sort_of k) ≡ Some (past (entries_of a) q) → size (entries_of a) ≡ call_arg_size a → past (flat_arg a) p ≡ past (entries_of a) q
       → Measured s l p a
   unfolding measure_at
   measured_as a k {q} r i root skip z e =
@@ -158,10 +154,10 @@ keeps_more k t u a h =
       before = λ j b. h.before j (omega arith) ∙ sets_before (row_of a) t k j b;
     }
 
-keeps_step : (k : ℕ) (t : List ℕ) (f : Argument → List ℕ) (b : Bool) (x : Found) → ((a : Argument) → Keeps k t (f a))
+keeps_step : (k : ℕ) (t : List ℕ) (f : Argument → List ℕ) (b : Bool) (x : Option Argument) → ((a : Argument) → Keeps k t (f a))
     → Keeps k t (pick b (on_found t f x) t)
-keeps_step k t f true (found.Argument a) h = h a
-keeps_step k t f true found.Nothing h = record { size = refl; before = λ j b. refl }
+keeps_step k t f true (Some a) h = h a
+keeps_step k t f true None h = record { size = refl; before = λ j b. refl }
 keeps_step k t f false x h = record { size = refl; before = λ j b. refl }
 
 module _ (s : List ℕ) (l : Layout) where
@@ -178,7 +174,7 @@ module _ (t t' : List ℕ) (k i : ℕ) (a : Argument) (e : k ≡ 6 * i) (b : k +
   cell : (j x : ℕ) → x ≡ k + j → j < 6 → get_or t' x 0 ≡ get_or (row_of a) j 0
   cell j x q m = rw q (h.before (k + j) (omega arith) ∙ sets_at (row_of a) t k j m b)
 
-  row_read : argument_in t' i ≡ found.Argument a
+  row_read : argument_in t' i ≡ Some a
   unfolding argument_in
   row_read =
       let r : a.root % 256 ≡ a.root = omega arith in
@@ -191,7 +187,7 @@ module _ (t t' : List ℕ) (k i : ℕ) (a : Argument) (e : k ≡ 6 * i) (b : k +
         cell 4 (6 * i + 4) (omega arith) (omega arith),
         cell 5 (6 * i + 5) (omega arith) (omega arith),
       )
-      (ap (λ (root : ℕ). found.Argument (record { from = a.from; to = a.to; root = root; size = a.size })) r)
+      (ap (λ (root : ℕ). Some (record { from = a.from; to = a.to; root = root; size = a.size })) r)
 
 range : (low high root : ℕ) → Decides ((low ≤ root) × (root ≤ high)) (between low high root)
 range low high root = decides_and (decides_le low root) (decides_le root high)
@@ -238,18 +234,18 @@ module _ (s : List ℕ) (l : Layout) where
 
 -- ------------------------------------------------------------------ a search
 
-else_assoc : (x y z : Option CallArg) → (x or_else y) or_else z ≡ x or_else (y or_else z)
+else_assoc : (x y z : Maybe CallArg) → (x or_else y) or_else z ≡ x or_else (y or_else z)
 unfolding ◌or_else◌
 else_assoc (some a) y z = refl
 else_assoc none y z = refl
 
-else_none : (x : Option CallArg) → x or_else none ≡ x
+else_none : (x : Maybe CallArg) → x or_else none ≡ x
 unfolding ◌or_else◌
 else_none (some a) = refl
 else_none none = refl
 
 -- a parameter has the name or not
-one_of : {s : List ℕ} {l : Layout} (b : Bool) {a : CallArg} {o : Option CallArg} {x other : Found} → FoundIs s l (some a) x
+one_of : {s : List ℕ} {l : Layout} (b : Bool) {a : CallArg} {o : Maybe CallArg} {x other : Option Argument} → FoundIs s l (some a) x
     → FoundIs s l o other
     → FoundIs s l (only_if b a or_else o) (pick b x other)
 unfolding only_if ◌or_else◌
@@ -257,7 +253,7 @@ one_of true h k = h
 one_of false h k = k
 
 module _ {def call : List ℕ} {d c : Layout} (table : List ℕ) (name : Name) {n : Text} (spelled : name_at def d name ≡ n) where
-  search_right : (qs : List MacroParam) (args : CallArgs) {p : Place} (i : ℕ) {o : Option CallArg} {other : Found}
+  search_right : (qs : List MacroParam) (args : CallArgs) {p : Place} (i : ℕ) {o : Maybe CallArg} {other : Option Argument}
       → Inside def d p (flat_params qs)
       → length_args args ≡ length qs → Rows call c table i args → FoundIs call c o other
       → FoundIs call c (lookup qs args n or_else o) (search_from def d table name (length qs) p i other)

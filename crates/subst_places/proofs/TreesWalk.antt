@@ -1,6 +1,7 @@
 -- What a walk gives where a tree stands: the entries of the substituted tree behind those that were written, or the refusal of the
 -- tree's definition. Two ways to put walks together: one after another, and as a part of a larger tree.
 -- Assumes nothing.
+use Rattle.std.proofs.Common.{Some}
 use Prim.Native.Nat.{ℕ, zero, suc, ◌+◌, ◌≤◌}
 use native.Mathlib.Omega.{arith}
 use mathlib.Core.Path.{◌≡◌, refl, sym, ap, subst, ◌∙◌}
@@ -20,7 +21,6 @@ use Rattle.tape.specs.Layouts.{Held, area_layout}
 use Rattle.tape.specs.Scan.{skip_at}
 use Rattle.tape.specs.declared.layout.Layout.{Layout}
 use Rattle.tape.specs.declared.layout.Place.{Place}
-use Rattle.tape.specs.declared.scan.Skipped.TheVariants.{At}
 use Rattle.tape.proofs.Located.{past, Inside, inside_sections}
 use Rattle.tape.proofs.Runs.{place, area_is}
 use Rattle.area.specs.Area.{Area, area_in, fits_area, Wrote, Within}
@@ -155,7 +155,7 @@ module _ (T : Tapes) where
 
     -- the left side of a Since ends where its walk comes and where a skip comes
     pub gives_behind : (s : List ℕ) (l : Layout) (left : Place) {end : Place} {X : Progress} {o : Outcome A} → WalkMatches flat P es X end o
-        → skip_at s l left grammar.condition ≡ At end → behind_in s l left X.walk ≡ At end
+        → skip_at s l left grammar.condition ≡ Some end → behind_in s l left X.walk ≡ Some end
     unfolding behind_in
     gives_behind s l left (writes Q e h w) skipped = rw e
     gives_behind s l left (refuses bytes e h w) skipped = rw e skipped

@@ -1,6 +1,9 @@
 -- The places of a parameter and of a binder's name: what a `?` or a `$` becomes there.
 -- Assumes nothing.
-use Rattle.std.specs.Prelude.{ℕ, zero, suc, ◌+◌, List, Bool, ◌&&◌, ◌||◌, leb}
+use Rattle.nodes.specs.declared.WithinNode.{WithinNode}
+use Rattle.nodes.specs.declared.SlotNode.{SlotNode}
+use Rattle.nodes.specs.declared.Refusal.{Refusal}
+use Rattle.std.specs.Prelude.{ℕ, zero, suc, ◌+◌, List, Bool, ◌&&◌, ◌||◌, leb, Option, Some, Result, Ok, Err}
 use Rattle.std.proofs.Math.Seq.{slice}
 use Rattle.grammar.specs.Grammar as grammar
 use Rattle.tape.specs.Pick.{pick}
@@ -8,19 +11,14 @@ use Rattle.nodes.specs.Node.{on_value, on_place, expect_at, past_type_at, slot_a
 use Rattle.tape.specs.Scan.{skip_at}
 use Rattle.tape.specs.declared.layout.Layout.{Layout}
 use Rattle.tape.specs.declared.layout.Place.{Place}
-use Rattle.tape.specs.declared.scan.Skipped.{Skipped}
-use Rattle.tape.specs.declared.scan.Skipped.TheVariants.{At}
 use Rattle.nodes.specs.declared.Name.{Name}
 use Rattle.nodes.specs.declared.Sigil.{Sigil}
 use Rattle.nodes.specs.declared.Sigil.TheVariants as sigil
 use Rattle.nodes.specs.declared.SlotNode.TheVariants as slot
-use Rattle.nodes.specs.declared.SlotRead.{SlotRead}
-use Rattle.nodes.specs.declared.SlotRead.TheVariants as sr
 use Rattle.nodes.specs.declared.WithinNode.TheVariants as within
-use Rattle.nodes.specs.declared.WithinRead.{WithinRead}
-use Rattle.nodes.specs.declared.WithinRead.TheVariants as wr
 use Rattle.area.specs.Area.{area_in, put_text_in}
 use Rattle.messages.specs.Reason.{refused_at}
+use Rattle.messages.specs.declared.Reason.{Reason}
 use Rattle.messages.specs.declared.Reason.TheVariants.{
   WithoutMessage,
   Unbound,
@@ -71,38 +69,38 @@ is_interval arg = has_root arg 48 51 || has_root arg 64 64
 -- ------------------------------------------------------------------ a within
 
 -- where the left side of a Since ends: where its walk came, or, if that was refused, where a skip comes
-unfoldable pub behind_in : List ℕ → Layout → Place → Walk → Skipped
-behind_in s l left (walk.Going st) = At st.place
+unfoldable pub behind_in : List ℕ → Layout → Place → Walk → Option Place
+behind_in s l left (walk.Going st) = Some st.place
 behind_in s l left (walk.Refused r charged) = skip_at s l left grammar.condition
 
 module _ (def table : List ℕ) (m : SubstMaps) where
-  unfoldable pub param_within_in : ℕ → Name → Place → Interval
+  unfoldable pub param_within_in : ℕ → Name → Place → Result Interval Refused
   param_within_in span name next =
-      on_found (interval.Refused (unbound_at m span name))
+      on_found (Err (unbound_at m span name))
       (λ arg.
-      pick (is_interval arg) (interval.Given arg next)
-      (interval.Refused (refused_at span (NotAnInterval m.macro_name name))))
+      pick (is_interval arg) (Ok (interval.Given arg next))
+      (Err (refused_at span (NotAnInterval m.macro_name name))))
       (arg_for def table m name)
 
-  abbrev pub on_within : ℕ → WithinRead → Interval
-  on_within span (wr.Node within.Concrete next) = interval.Own next
-  on_within span (wr.Node (within.ParamRef name) next) = param_within_in span name next
-  on_within span (wr.Refused r) = interval.Refused (refused_at 0 (WithoutMessage 2))
+  abbrev pub on_within : ℕ → Result (WithinNode × Place) Refusal → Result Interval Refused
+  on_within span (Ok (within.Concrete, next)) = Ok (interval.Own next)
+  on_within span (Ok (within.ParamRef name, next)) = param_within_in span name next
+  on_within span (Err r) = Err (refused_at 0 (WithoutMessage 2))
 
-  unfoldable pub within_in : ℕ → Place → Interval
+  unfoldable pub within_in : ℕ → Place → Result Interval Refused
   within_in span p = on_within span (within_at def m.definition p)
 
   -- that of a Since, which stands behind its left side
-  unfoldable pub since_within_in : ℕ → Place → Walk → Interval
+  unfoldable pub since_within_in : ℕ → Place → Walk → Result Interval Refused
   since_within_in span left w =
-      on_place (interval.Refused (refused_at 0 (WithoutMessage 2))) (within_in span) (behind_in def m.definition left w)
+      on_place (Err (refused_at 0 (WithoutMessage 2))) (within_in span) (behind_in def m.definition left w)
 
 -- what a within became, behind a walk; a refusal of the within comes before one of the walk, with what was charged before it
 module _ (def call : List ℕ) (m : SubstMaps) where
-  unfoldable pub put_within_in : Interval → ℕ → Progress → Progress
-  put_within_in (interval.Own next) charged X = after (λ st bytes. copy_own_in def m st next bytes) X
-  put_within_in (interval.Given arg next) charged X = paste_in call m arg next X
-  put_within_in (interval.Refused r) charged X = progress (walk.Refused r charged) X.bytes
+  unfoldable pub put_within_in : Result Interval Refused → ℕ → Progress → Progress
+  put_within_in (Ok (interval.Own next)) charged X = after (λ st bytes. copy_own_in def m st next bytes) X
+  put_within_in (Ok (interval.Given arg next)) charged X = paste_in call m arg next X
+  put_within_in (Err r) charged X = progress (walk.Refused r charged) X.bytes
 
 module _ (T : Tapes) where
   -- what a `?` with this name finds, or `none`
@@ -110,6 +108,13 @@ module _ (T : Tapes) where
   on_parameter none f name = on_found none f (arg_for T.definition T.table T.maps name)
 
   -- ---------------------------------------------------------------- a condition, a term
+
+  -- a `?` where the root of an argument is of a code from `low` to `high`; of any other, `other` is said
+  unfoldable pub param_in : (low high : ℕ) → Reason → ℕ → Name → State → Place → List ℕ → Progress
+  param_in low high other span name st next bytes =
+      on_parameter (stop (unbound_at T.maps span name) st bytes)
+      (λ arg. pick (has_root arg low high) (charge_paste_in T.call T.maps arg st next bytes) (stop (refused_at span other) st bytes))
+      name
 
   unfoldable pub param_condition_in : ℕ → Name → State → Place → List ℕ → Progress
   param_condition_in span name st next bytes =
@@ -145,11 +150,11 @@ module _ (T : Tapes) where
       (stop (refused_at T.maps.call_span (NotAnIdentifier T.maps.macro_name name)) st bytes))
       name
 
-  abbrev pub on_slot : ℕ → State → List ℕ → SlotRead → Progress
-  on_slot span st bytes (sr.Node (slot.Name name) next) = copy_own_in T.definition T.maps st next bytes
-  on_slot span st bytes (sr.Node (slot.ParamRef name) next) = param_slot_in span name st next bytes
-  on_slot span st bytes (sr.Node (slot.BinderRef name) next) = gensym_in T.definition T.maps 43 name st next bytes
-  on_slot span st bytes (sr.Refused r) = unread st bytes
+  abbrev pub on_slot : ℕ → State → List ℕ → Result (SlotNode × Place) Refusal → Progress
+  on_slot span st bytes (Ok (slot.Name name, next)) = copy_own_in T.definition T.maps st next bytes
+  on_slot span st bytes (Ok (slot.ParamRef name, next)) = param_slot_in span name st next bytes
+  on_slot span st bytes (Ok (slot.BinderRef name, next)) = gensym_in T.definition T.maps 43 name st next bytes
+  on_slot span st bytes (Err r) = unread st bytes
 
   unfoldable pub binder_slot_in : ℕ → Progress → Progress
   binder_slot_in span = after λ st bytes. on_slot span st bytes (slot_at T.definition T.maps.definition st.place)

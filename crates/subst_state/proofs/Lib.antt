@@ -1,3 +1,2 @@
 -- The laws that several proofs of the crate cite.
-mod Steps
-mod Runs
+pub mod Steps

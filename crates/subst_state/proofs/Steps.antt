@@ -1,6 +1,7 @@
 -- What the small functions answer, from what they learnt on the way.
 -- Assumes nothing.
-use Prim.Native.Nat.{ℕ, zero, suc, ◌+◌, ◌-◌, ◌≤◌, ◌<◌, min}
+use Rattle.std.proofs.Common.{Option, Some, None}
+use Prim.Native.Nat.{ℕ, zero, suc, ◌+◌, ◌*◌, ◌-◌, ◌≤◌, ◌<◌, min}
 use native.Mathlib.Nat.{min-eq_left, min-eq_right}
 use native.Mathlib.Omega.{arith}
 use mathlib.Core.Path.{◌≡◌, refl, sym, ap, ◌∙◌}
@@ -10,6 +11,7 @@ use lib.Dec.{leb}
 use lib.ListN.{length, take, drop, set, length-drop}
 use lib.Seq.{sets, slice, take_all, take-nil}
 use borrow.Author.Tests.{leb-true, leb-false, lt-leb, le-leb}
+use Rattle.std.proofs.lemmas.List.{drop_all}
 use Rattle.format.specs.Stands.{part}
 use Rattle.definition.specs.Text.{eq_text}
 use Rattle.tape.specs.Pick.{pick}
@@ -18,33 +20,22 @@ use Rattle.tape.specs.declared.layout.Layout.{Layout}
 use Rattle.tape.specs.declared.layout.Place.{Place}
 use Rattle.nodes.specs.declared.Name.{Name}
 use Rattle.nodes.specs.Node.{param_at}
-use Rattle.nodes.specs.declared.ParamRead.{ParamRead}
-use Rattle.nodes.specs.declared.ParamRead.TheVariants as pr
 use Rattle.subst_state.specs.Arguments.{row_of, measure_at, table_from, argument_in, search_from}
 use Rattle.subst_state.specs.Output.{charge_of}
 use Rattle.subst_state.specs.declared.maps.Argument.{Argument}
-use Rattle.subst_state.specs.declared.maps.Charged.TheVariants.{Paid, Exceeded}
-use Rattle.subst_state.specs.declared.maps.Found.{Found}
-use Rattle.subst_state.specs.declared.maps.Found.TheVariants as found
 
 -- ------------------------------------------------------------------ charges
 
 module _ (limit charged n : ℕ) where
-  pub exceeded : limit < charged + n → Exceeded ≡ charge_of limit charged n
+  pub exceeded : limit < charged + n → None ≡ charge_of limit charged n
   unfolding charge_of
   exceeded h = rw (lt-leb (charged + n) limit h)
 
-  pub paid : charged + n ≤ limit → Paid (charged + n) ≡ charge_of limit charged n
+  pub paid : charged + n ≤ limit → Some (charged + n) ≡ charge_of limit charged n
   unfolding charge_of
   paid h = rw (le-leb (charged + n) limit h)
 
 -- ------------------------------------------------------------------ parts of a slice
-
-drop_past : (n : ℕ) (s : List ℕ) → length s ≤ n → drop n s ≡ []
-drop_past zero [] h = refl
-drop_past (suc n) [] h = refl
-drop_past zero (b ∷ s) h = absurd (omega arith)
-drop_past (suc n) (b ∷ s) h = drop_past n s (omega arith)
 
 -- an index past the end of every slice is as good as the last of them
 module _ (most : ℕ) (s : List ℕ) (h : length s ≤ most) where
@@ -63,8 +54,8 @@ module _ (most : ℕ) (s : List ℕ) (h : length s ≤ most) where
       go : (t : Bool) → leb n most ≡ t → drop (min n most) s ≡ drop n s
       go true e = ap (λ (k : ℕ). drop k s) (min-eq_left (leb-true n most e))
       go false e =
-          drop_past (min n most) s (omega (arith, min-eq_right (leb-false n most e)))
-          ∙ sym (drop_past n s (omega (arith, leb-false n most e)))
+          drop_all (min n most) s (omega (arith, min-eq_right (leb-false n most e)))
+          ∙ sym (drop_all n s (omega (arith, leb-false n most e)))
 
 part_slice : (s : List ℕ) (a b : ℕ) → part s a (b - a) ≡ slice a b s
 part_slice s zero b = let e : b - 0 ≡ b = omega arith in rw e
@@ -72,20 +63,32 @@ part_slice [] (suc a) b = take-nil (b - suc a) ∙ sym (ap (drop (suc a)) (take-
 part_slice (c ∷ s) (suc a) zero = let e : 0 - suc a ≡ 0 = omega arith in rw e
 part_slice (c ∷ s) (suc a) (suc b) = let e : suc b - suc a ≡ b - a = omega arith in rw e (part_slice s a b)
 
--- a part of one of two slices, its start and its length cut to the largest number
-pub cut : (which : Bool) (most : ℕ) (s t : List ℕ) (a b x n : ℕ) {r : List ℕ} → length s ≤ most → length t ≤ most
-    → r ≡ part (pick which s t) x n → x ≡ min a most → n ≡ min (b - a) most → r ≡ slice a b (pick which s t)
-cut which most s t a b x n h k e p q = rw (e, p, q) (go which)
-  where
-    one : (u : List ℕ) → length u ≤ most → part u (min a most) (min (b - a) most) ≡ slice a b u
-    one u i =
-        ap (take (min (b - a) most)) (drop_within most u i a)
-        ∙ take_within most (drop a u) (omega (arith, length-drop a u)) (b - a)
-        ∙ part_slice u a b
+-- a part of a slice, its start and its length cut to the largest number
+uncut : (u : List ℕ) (a n : ℕ) → length u ≤ 18446744073709551615
+    → part u (min a 18446744073709551615) (min n 18446744073709551615) ≡ part u a n
+uncut u a n i =
+    ap (take (min n 18446744073709551615)) (drop_within 18446744073709551615 u i a)
+    ∙ take_within 18446744073709551615 (drop a u) (omega (arith, length-drop a u)) n
 
-    go : (v : Bool) → part (pick v s t) (min a most) (min (b - a) most) ≡ slice a b (pick v s t)
-    go true = one s h
-    go false = one t k
+-- a part of one of two slices, from one place to another behind its base
+module _ (which : Bool) (s t : List ℕ) (base from to : ℕ) (h : length s ≤ 18446744073709551615) (k : length t ≤ 18446744073709551615) where
+  fits : (v : Bool) → length (pick v s t) ≤ 18446744073709551615
+  fits true = h
+  fits false = k
+
+  pub bytes_between : to ≤ 18446744073709551615
+      → part (pick which s t) (min (base + from) 18446744073709551615) (to - from) ≡ slice (base + from) (base + to) (pick which s t)
+  bytes_between m =
+      let e : to - from ≡ min (base + to - (base + from)) 18446744073709551615 = omega arith in
+      rw e (uncut (pick which s t) (base + from) (base + to - (base + from)) (fits which) ∙ part_slice (pick which s t) (base + from) (base + to))
+
+  pub eights_between : part (pick which s t) (min (base + 8 * from) 18446744073709551615) (min (0 + 8 * (to - from)) 18446744073709551615)
+      ≡ slice (base + 8 * from) (base + 8 * to) (pick which s t)
+  eights_between =
+      let e : 0 + 8 * (to - from) ≡ base + 8 * to - (base + 8 * from) = omega arith in
+      rw e
+      (uncut (pick which s t) (base + 8 * from) (base + 8 * to - (base + 8 * from)) (fits which)
+      ∙ part_slice (pick which s t) (base + 8 * from) (base + 8 * to))
 
 -- ------------------------------------------------------------------ the table of arguments
 
@@ -107,57 +110,60 @@ row_written t k a =
     let e₅ : k + 5 ≡ suc (suc (suc (suc (suc k)))) = omega arith in
     rw (e₁, e₂, e₃, e₄, e₅)
 
-one_more : (n : ℕ) → 0 < n → suc (n - 1) ≡ n
-one_more n h = omega arith
-
-module _ (s : List ℕ) (l : Layout) {n : ℕ} (p : Place) (k : ℕ) (t : List ℕ) where
-  pub table_done : n ≤ 0 → t ≡ table_from s l n p k t
+-- the loop that writes the table, with j of n arguments written
+module _ (s : List ℕ) (l : Layout) (n j : ℕ) (p : Place) (k : ℕ) (t : List ℕ) where
+  pub table_done : n ≤ j → table_from s l (n - j) p k t ≡ t
   unfolding table_from
-  table_done h = let e : n ≡ 0 = omega arith in rw e
+  table_done h = let e : n - j ≡ 0 = omega (arith, h) in ap (λ (m : ℕ). table_from s l m p k t) e
 
-  module _ (some : 0 < n) where
-    opened : table_from s l n p k t ≡ table_from s l (suc (n - 1)) p k t
-    opened = ap (λ (i : ℕ). table_from s l i p k t) (sym (one_more n some))
+  module _ (some : j < n) where
+    opened : table_from s l (n - j) p k t ≡ table_from s l (suc (n - (j + 1))) p k t
+    opened = let e : n - j ≡ suc (n - (j + 1)) = omega (arith, some) in ap (λ (m : ℕ). table_from s l m p k t) e
 
-    pub table_full : length t < k + 6 → t ≡ table_from s l n p k t
+    pub table_full : length t < k + 6 → table_from s l (n - j) p k t ≡ t
     unfolding table_from
     table_full h = rw (opened, lt-leb (k + 6) (length t) h)
 
-    module _ (room : k + 6 ≤ length t) {x : Found} (m : x ≡ measure_at s l p) where
-      pub table_none : x ≡ found.Nothing → t ≡ table_from s l n p k t
+    module _ (room : k + 6 ≤ length t) where
+      pub table_none : None ≡ measure_at s l p → table_from s l (n - j) p k t ≡ t
       unfolding table_from
-      table_none e = rw (opened, le-leb (k + 6) (length t) room, ← m, e)
+      table_none e = rw (opened, le-leb (k + 6) (length t) room, ← e)
 
-      pub table_more : {a : Argument} {u : List ℕ} → x ≡ found.Argument a → u ≡ sets t k (row_of a)
-          → table_from s l (n - 1) a.to (k + 6) u ≡ table_from s l n p k t
+      pub table_more : {a : Argument} → Some a ≡ measure_at s l p
+          → table_from s l (n - j) p k t ≡ table_from s l (n - (j + 1)) a.to (k + 6) (sets t k (row_of a))
       unfolding table_from
-      table_more e q = rw (opened, le-leb (k + 6) (length t) room, ← m, e, q)
+      table_more e = rw (opened, le-leb (k + 6) (length t) room, ← e)
 
 -- ------------------------------------------------------------------ a search
 
-module _ (s : List ℕ) (l : Layout) (table : List ℕ) (name : Name) {n : ℕ} (p : Place) (i : ℕ) (other : Found) where
-  pub search_done : n ≤ 0 → other ≡ search_from s l table name n p i other
+-- the loop that searches, with j of n parameters looked at
+module _ (s : List ℕ) (l : Layout) (table : List ℕ) (name : Name) (n j : ℕ) (p : Place) (other : Option Argument) where
+  pub search_done : n ≤ j → search_from s l table name (n - j) p j other ≡ other
   unfolding search_from
-  search_done h = let e : n ≡ 0 = omega arith in rw e
+  search_done h = let e : n - j ≡ 0 = omega (arith, h) in ap (λ (m : ℕ). search_from s l table name m p j other) e
 
-  module _ (some : 0 < n) {x : ParamRead} (m : x ≡ param_at s l p) where
-    going_on : search_from s l table name n p i other ≡ search_from s l table name (suc (n - 1)) p i other
-    going_on = ap (λ (k : ℕ). search_from s l table name k p i other) (sym (one_more n some))
+  module _ (some : j < n) where
+    going_on : search_from s l table name (n - j) p j other ≡ search_from s l table name (suc (n - (j + 1))) p j other
+    going_on = let e : n - j ≡ suc (n - (j + 1)) = omega (arith, some) in ap (λ (m : ℕ). search_from s l table name m p j other) e
 
-    pub search_end : x ≡ pr.Nothing → other ≡ search_from s l table name n p i other
+    pub search_end : None ≡ param_at s l p → search_from s l table name (n - j) p j other ≡ other
     unfolding search_from
-    search_end e = rw (going_on, ← m, e)
+    search_end e = rw (going_on, ← e)
 
-    module _ {param : Name} {next : Place} (e : x ≡ pr.Param param next) {u v : List ℕ} (h : u ≡ name_at s l param) (k : v ≡ name_at s l name) where
-      more : {f : Found} → f ≡ pick (eq_text u v) (argument_in table i) other
-          → search_from s l table name (n - 1) next (i + 1) f ≡ search_from s l table name n p i other
-      unfolding search_from
-      more r = rw (r, h, k, going_on, ← m, e)
+    module _ {param : Name} {next : Place} (e : Some (param, next) ≡ param_at s l p) where
+      behind : Bool → Option Argument
+      behind b = search_from s l table name (n - (j + 1)) next (j + 1) (pick b (argument_in table j) other)
 
-      pub search_hit : {b : Bool} {f : Found} → b ≡ eq_text u v → b ≡ true → f ≡ argument_in table i
-          → search_from s l table name (n - 1) next (i + 1) f ≡ search_from s l table name n p i other
-      search_hit q t r = more (rw (← q, t) r)
+      one_looked_at : search_from s l table name (n - j) p j other ≡ behind (eq_text (name_at s l param) (name_at s l name))
+      unfolding search_from behind
+      one_looked_at = rw (going_on, ← e)
 
-      pub search_miss : {b : Bool} {f : Found} → b ≡ eq_text u v → b ≡ false → f ≡ other
-          → search_from s l table name (n - 1) next (i + 1) f ≡ search_from s l table name n p i other
-      search_miss q t r = more (rw (← q, t) r)
+      pub search_hit : eq_text (name_at s l param) (name_at s l name) ≡ true
+          → search_from s l table name (n - j) p j other ≡ search_from s l table name (n - (j + 1)) next (j + 1) (argument_in table j)
+      unfolding behind
+      search_hit t = one_looked_at ∙ ap behind t
+
+      pub search_miss : eq_text (name_at s l param) (name_at s l name) ≡ false
+          → search_from s l table name (n - j) p j other ≡ search_from s l table name (n - (j + 1)) next (j + 1) other
+      unfolding behind
+      search_miss t = one_looked_at ∙ ap behind t

@@ -1,6 +1,7 @@
 -- The arguments of a call: what the table of them holds, and which one a parameter's name finds.
 -- Assumes nothing.
-use Rattle.std.specs.Prelude.{ℕ, zero, suc, ◌+◌, ◌*◌, ◌%◌, List, [], ◌∷◌, leb, length, get_or}
+use Rattle.nodes.specs.declared.Refusal.{Refusal}
+use Rattle.std.specs.Prelude.{ℕ, zero, suc, ◌+◌, ◌*◌, ◌%◌, List, [], ◌∷◌, leb, length, get_or, Option, Some, None, Result, Ok, Err}
 use Rattle.std.proofs.lemmas.List.Edits.{sets}
 use Rattle.grammar.specs.Grammar as grammar
 use Rattle.definition.specs.Text.{eq_text}
@@ -13,30 +14,24 @@ use Rattle.tape.specs.declared.layout.Place.{Place}
 use Rattle.nodes.specs.declared.Name.{Name}
 use Rattle.nodes.specs.declared.ArgNode.{ArgNode}
 use Rattle.nodes.specs.declared.ArgNode.TheVariants as kind
-use Rattle.nodes.specs.declared.ArgRead.{ArgRead}
-use Rattle.nodes.specs.declared.ArgRead.TheVariants as ar
 use Rattle.nodes.specs.Node.{param_at}
-use Rattle.nodes.specs.declared.ParamRead.{ParamRead}
-use Rattle.nodes.specs.declared.ParamRead.TheVariants as pr
 use Rattle.subst_state.specs.declared.maps.Argument.{Argument}
-use Rattle.subst_state.specs.declared.maps.Found.{Found}
-use Rattle.subst_state.specs.declared.maps.Found.TheVariants as found
 use Rattle.subst_state.specs.declared.maps.SubstMaps.{SubstMaps}
 
 -- ------------------------------------------------------------------ cases
 
 -- what was found, or else `none`
-abbrev pub on_found : {A : Type 0} → A → (Argument → A) → Found → A
-on_found none f found.Nothing = none
-on_found none f (found.Argument a) = f a
+abbrev pub on_found : {A : Type 0} → A → (Argument → A) → Option Argument → A
+on_found none f None = none
+on_found none f (Some a) = f a
 
-abbrev pub on_argument : {A : Type 0} → A → (ArgNode → Place → A) → ArgRead → A
-on_argument none f (ar.Node k next) = f k next
-on_argument none f (ar.Refused r) = none
+abbrev pub on_argument : {A : Type 0} → A → (ArgNode → Place → A) → Result (ArgNode × Place) Refusal → A
+on_argument none f (Ok (k, next)) = f k next
+on_argument none f (Err r) = none
 
-abbrev pub on_param : {A : Type 0} → A → (Name → Place → A) → ParamRead → A
-on_param none f pr.Nothing = none
-on_param none f (pr.Param name next) = f name next
+abbrev pub on_param : {A : Type 0} → A → (Name → Place → A) → Option (Name × Place) → A
+on_param none f None = none
+on_param none f (Some (name, next)) = f name next
 
 -- ------------------------------------------------------------------ the table
 
@@ -47,14 +42,14 @@ sort_of kind.Term = grammar.term
 sort_of kind.Within = grammar.interval
 
 -- the argument whose first entry stands at a place: where it starts and ends, the code of its root, its size
-unfoldable pub measure_at : List ℕ → Layout → Place → Found
+unfoldable pub measure_at : List ℕ → Layout → Place → Option Argument
 measure_at s l p =
-    on_argument found.Nothing
+    on_argument None
     (λ k from.
-    on_entry found.Nothing
+    on_entry None
     (λ root value next.
-    on_place found.Nothing
-    (λ to. found.Argument (record { from = from; to = to; root = root; size = size_between s l from.at to.at }))
+    on_place None
+    (λ to. Some (record { from = from; to = to; root = root; size = size_between s l from.at to.at }))
     (skip_at s l from (sort_of k)))
     (entry_at s l from))
     (argument_at s l p)
@@ -74,20 +69,20 @@ table_from s l (suc n) p k table =
 -- ------------------------------------------------------------------ a search
 
 -- the argument of row i
-unfoldable pub argument_in : List ℕ → ℕ → Found
+unfoldable pub argument_in : List ℕ → ℕ → Option Argument
 argument_in table i =
     pick (leb (6 * i + 6) (length table))
-    (found.Argument
+    (Some
     (record {
       from = record { at = get_or table (6 * i) 0; text = get_or table (6 * i + 1) 0 };
       to = record { at = get_or table (6 * i + 2) 0; text = get_or table (6 * i + 3) 0 };
       root = get_or table (6 * i + 4) 0 % 256;
       size = get_or table (6 * i + 5) 0;
     }))
-    found.Nothing
+    None
 
 -- the argument of the last of n parameters, from a place and from row i on, that has the name; `other` where there is none
-unfoldable pub search_from : List ℕ → Layout → List ℕ → Name → ℕ → Place → ℕ → Found → Found
+unfoldable pub search_from : List ℕ → Layout → List ℕ → Name → ℕ → Place → ℕ → Option Argument → Option Argument
 search_from s l table name zero p i other = other
 search_from s l table name (suc n) p i other =
     on_param other
@@ -97,5 +92,5 @@ search_from s l table name (suc n) p i other =
     (param_at s l p)
 
 -- the definition's tape, the table, and the name of a `?`
-unfoldable pub arg_for : List ℕ → List ℕ → SubstMaps → Name → Found
-arg_for def table m name = search_from def m.definition table name m.count m.params 0 found.Nothing
+unfoldable pub arg_for : List ℕ → List ℕ → SubstMaps → Name → Option Argument
+arg_for def table m name = search_from def m.definition table name m.count m.params 0 None

@@ -1,6 +1,6 @@
 -- What a substitution charges, and what it writes: runs, and generated names.
 -- Assumes nothing.
-use Rattle.std.specs.Prelude.{ℕ, ◌+◌, ◌*◌, ◌%◌, List, leb}
+use Rattle.std.specs.Prelude.{ℕ, ◌+◌, ◌*◌, ◌%◌, List, leb, Option, Some, None}
 use Rattle.std.proofs.Math.Seq.{slice}
 use Rattle.tape.specs.Pick.{pick}
 use Rattle.nodes.specs.Node.{name_at}
@@ -17,19 +17,17 @@ use Rattle.walk_state.specs.declared.writing.State.{State}
 use Rattle.walk_state.specs.declared.writing.Walk.{Walk}
 use Rattle.walk_state.specs.declared.writing.Walk.TheVariants as walk
 use Rattle.subst_state.specs.declared.maps.Argument.{Argument}
-use Rattle.subst_state.specs.declared.maps.Charged.{Charged}
-use Rattle.subst_state.specs.declared.maps.Charged.TheVariants.{Paid, Exceeded}
 use Rattle.subst_state.specs.declared.maps.SubstMaps.{SubstMaps}
 
 -- ------------------------------------------------------------------ the budget
 
 -- "a charge that would take it above the limit .. is not added"
-unfoldable pub charge_of : ℕ → ℕ → ℕ → Charged
-charge_of limit charged n = pick (leb (charged + n) limit) (Paid (charged + n)) Exceeded
+unfoldable pub charge_of : ℕ → ℕ → ℕ → Option ℕ
+charge_of limit charged n = pick (leb (charged + n) limit) (Some (charged + n)) None
 
-abbrev pub on_charged : Refused → State → Charged → Walk
-on_charged r st (Paid charged) = walk.Going (state st.place st.out charged)
-on_charged r st Exceeded = walk.Refused r st.charged
+abbrev pub on_charged : Refused → State → Option ℕ → Walk
+on_charged r st (Some charged) = walk.Going (state st.place st.out charged)
+on_charged r st None = walk.Refused r st.charged
 
 -- 35 has the call's span
 unfoldable pub charged_for : SubstMaps → ℕ → State → Walk

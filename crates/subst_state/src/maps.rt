@@ -5,17 +5,14 @@ ghost use Rattle.subst_state.specs.Arguments.{sort_of, measure_at, row_of, table
 ghost use Rattle.subst_state.specs.Output.{charge_of};
 
 use grammar::codes::{CONDITION, INTERVAL, TERM};
-use nodes::{
-    ArgNode, ArgRead, EntryRead, Name, ParamRead, entry, name_at, read_argument, read_param,
-    same_text,
-};
+use nodes::{ArgNode, Name, entry, name_at, read_argument, read_param};
 use tape::layout::{Layout, Place};
-use tape::scan::{Skipped, skip};
+use tape::scan::skip;
 use tape::text::size;
 
 // The Rust's `SubstMaps`: the layouts of the two tapes, where the parameters stand and how many they are, and what messages, charges
 // and generated names want.
-#[derive(Clone, Copy)]
+#[derive(Clone, Copy, Debug, PartialEq, Eq)]
 pub struct SubstMaps {
     pub definition: Layout,
     pub call: Layout,
@@ -27,14 +24,8 @@ pub struct SubstMaps {
     pub file: u16,
 }
 
-#[derive(Clone, Copy)]
-pub enum Charged {
-    Paid(u32),
-    Exceeded,
-}
-
 // An argument: its place and the place behind it, the code of its root, its size.
-#[derive(Clone, Copy)]
+#[derive(Clone, Copy, Debug, PartialEq, Eq)]
 pub struct Argument {
     pub from: Place,
     pub to: Place,
@@ -42,23 +33,16 @@ pub struct Argument {
     pub size: usize,
 }
 
-#[derive(Clone, Copy)]
-pub enum Found {
-    Argument(Argument),
-    Nothing,
-}
-
 // A charge that would take the sum above the limit is not added.
-pub fn charge(limit: u32, charged: u32, nodes: usize) -> Charged
+#[tactic(auto, using(crate::proofs::Steps::exceeded, crate::proofs::Steps::paid))]
+pub fn charge(limit: u32, charged: u32, nodes: usize) -> Option<u32>
     ensures { result ≡ charge_of limit charged nodes }
 {
-    if limit < charged {
-        return Charged::Exceeded;
+    let left = limit.checked_sub(charged)?;
+    if (left as usize) < nodes {
+        return None;
     }
-    if ((limit - charged) as usize) < nodes {
-        return Charged::Exceeded;
-    }
-    Charged::Paid(charged + nodes as u32)
+    Some(charged + nodes as u32)
 }
 
 // The sort of what an argument's first entry announces.
@@ -73,20 +57,15 @@ fn sort_of(kind: ArgNode) -> u64
 }
 
 // The argument whose first entry, a 55, 56 or 57, stands at a place.
-fn measure(s: &[u8], l: Layout, p: Place) -> Found
+#[tactic(auto, unfolding(crate::specs::Arguments::measure_at))]
+fn measure(s: &[u8], l: Layout, p: Place) -> Option<Argument>
     ensures { result ≡ measure_at s.now l p }
 {
-    let ArgRead::Node(kind, from) = read_argument(s, l, p) else {
-        return Found::Nothing;
-    };
-    let EntryRead::Entry(root, _, _) = entry(s, l, from) else {
-        return Found::Nothing;
-    };
-    let Skipped::At(to) = skip(s, l, from, sort_of(kind)) else {
-        return Found::Nothing;
-    };
+    let (kind, from) = read_argument(s, l, p).ok()?;
+    let (root, _, _) = entry(s, l, from)?;
+    let to = skip(s, l, from, sort_of(kind))?;
     let size = size(s, l, from.at, to.at);
-    Found::Argument(Argument {
+    Some(Argument {
         from,
         to,
         root,
@@ -95,6 +74,7 @@ fn measure(s: &[u8], l: Layout, p: Place) -> Found
 }
 
 // Writes an argument's six numbers into the table.
+#[tactic(auto, using(crate::proofs::Steps::row_written))]
 fn put_argument(args: &mut [usize], k: usize, a: Argument)
     requires { k + 6 ≤ length args.old }
     ensures { args.new ≡ sets args.old k (row_of a) }
@@ -109,40 +89,37 @@ fn put_argument(args: &mut [usize], k: usize, a: Argument)
 
 // The table of a call's arguments, six numbers for each: they are found and measured once, and not at every paste. `first` is the
 // place of the first, and the table has room for as many as it has.
+#[tactic(auto, using(crate::proofs::Steps::table_done, crate::proofs::Steps::table_full, crate::proofs::Steps::table_none, crate::proofs::Steps::table_more))]
 pub fn find_arguments(s: &[u8], l: Layout, first: Place, count: u64, args: &mut [usize])
     ensures { args.new ≡ table_from s.now l count first 0 args.old }
 {
     let mut p = first;
     let mut k: usize = 0;
-    let mut left = count;
-    while 0 < left {
+    for _ in 0..count {
         if args.len() - k < 6 {
             return;
         }
-        let Found::Argument(a) = measure(s, l, p) else {
+        let Some(a) = measure(s, l, p) else {
             return;
         };
         put_argument(args, k, a);
         p = a.to;
         k += 6;
-        left = left - 1;
     }
 }
 
 // The argument at an index of the table.
-fn argument_at(args: &[usize], i: usize) -> Found
+#[tactic(auto, unfolding(crate::specs::Arguments::argument_in))]
+fn argument_at(args: &[usize], i: usize) -> Option<Argument>
     ensures { result ≡ argument_in args.now i }
 {
     // whether six numbers stand behind 6 * i others, without a division by six: document 02, point 2
     if args.len() / 4 <= i {
-        return Found::Nothing;
+        return None;
     }
     let left = args.len() - 4 * i;
-    if left < 6 {
-        return Found::Nothing;
-    }
-    if (left - 6) / 2 < i {
-        return Found::Nothing;
+    if left < 6 || (left - 6) / 2 < i {
+        return None;
     }
     let k = 6 * i;
     let from = Place {
@@ -153,7 +130,7 @@ fn argument_at(args: &[usize], i: usize) -> Found
         at: args[k + 2],
         text: args[k + 3],
     };
-    Found::Argument(Argument {
+    Some(Argument {
         from,
         to,
         root: (args[k + 4] % 256) as u8,
@@ -162,24 +139,21 @@ fn argument_at(args: &[usize], i: usize) -> Found
 }
 
 // The argument of the last parameter with this name.
-pub fn arg_for(def: &[u8], args: &[usize], m: SubstMaps, name: Name) -> Found
+#[tactic(auto, using(crate::proofs::Steps::search_done, crate::proofs::Steps::search_end, crate::proofs::Steps::search_hit, crate::proofs::Steps::search_miss, nodes::proofs::Texts::equal_texts), unfolding(crate::specs::Arguments::arg_for))]
+pub fn arg_for(def: &[u8], args: &[usize], m: SubstMaps, name: Name) -> Option<Argument>
     ensures { result ≡ arg_for def.now args.now m name }
 {
     let l = m.definition;
-    let mut found = Found::Nothing;
+    let mut found = None;
     let mut p = m.params;
-    let mut i: usize = 0;
-    let mut left = m.count;
-    while 0 < left {
-        let ParamRead::Param(param, next) = read_param(def, l, p) else {
+    for i in 0..m.count {
+        let Some((param, next)) = read_param(def, l, p) else {
             return found;
         };
-        if same_text(name_at(def, l, param), name_at(def, l, name)) {
-            found = argument_at(args, i);
+        if name_at(def, l, param) == name_at(def, l, name) {
+            found = argument_at(args, i as usize);
         }
         p = next;
-        i += 1;
-        left = left - 1;
     }
     found
 }

@@ -3,7 +3,7 @@ ghost use Rattle.std.specs.Prelude.{◌≡◌};
 ghost use Rattle.walk_state.specs.Writing.{progress};
 ghost use Rattle.subst_state.specs.Output.{charged_for, copy_own_in, paste_in, charge_paste_in, gensym_in};
 
-use crate::maps::{Argument, Charged, SubstMaps, charge};
+use crate::maps::{Argument, SubstMaps, charge};
 use crate::run::copy;
 use area::put_generated;
 use messages::{Reason, refuse};
@@ -12,6 +12,7 @@ use tape::layout::Place;
 use walk_state::writing::{State, Walk};
 
 // Appends the body's own entries up to `next`.
+#[tactic(auto, unfolding(crate::specs::Output::copy_own_in))]
 pub fn copy_own<'a>(
     def: &'a [u8],
     call: &'a [u8],
@@ -26,11 +27,12 @@ pub fn copy_own<'a>(
     Walk::Going(State {
         place: next,
         out,
-        charged: st.charged,
+        ..st
     })
 }
 
 // Appends an argument, in the place of what ends at `next`.
+#[tactic(auto, unfolding(crate::specs::Output::paste_in))]
 pub fn paste<'a>(
     def: &'a [u8],
     call: &'a [u8],
@@ -49,27 +51,23 @@ pub fn paste<'a>(
     Walk::Going(State {
         place: next,
         out,
-        charged: st.charged,
+        ..st
     })
 }
 
 // Charges nodes, or answers 35 with the call's span.
+#[tactic(auto, unfolding(crate::specs::Output::charged_for))]
 pub fn charge_nodes(m: SubstMaps, nodes: usize, st: State) -> Walk
     ensures { result ≡ charged_for m nodes st }
 {
-    let Charged::Paid(charged) = charge(m.limit, st.charged, nodes) else {
+    let Some(charged) = charge(m.limit, st.charged, nodes) else {
         return Walk::Refused(refuse(m.call_span, Reason::Budget(m.limit)), st.charged);
     };
-    let place = st.place;
-    let out = st.out;
-    Walk::Going(State {
-        place,
-        out,
-        charged,
-    })
+    Walk::Going(State { charged, ..st })
 }
 
 // One paste of an argument is charged before the argument is copied.
+#[tactic(auto, unfolding(crate::specs::Output::charge_paste_in))]
 pub fn charge_paste<'a>(
     def: &'a [u8],
     call: &'a [u8],
@@ -87,6 +85,7 @@ pub fn charge_paste<'a>(
 
 // `$t` becomes t, `$`, the call's start and, in a file above 0, `#` and the file number, so it has the same name at each place within
 // a call.
+#[tactic(auto, unfolding(crate::specs::Output::gensym_in))]
 pub fn gensym_for(
     def: &[u8],
     buf: &mut [u8],
@@ -110,6 +109,6 @@ pub fn gensym_for(
     Walk::Going(State {
         place: next,
         out,
-        charged: st.charged,
+        ..st
     })
 }

@@ -16,6 +16,7 @@ pub fn distance(from: usize, to: usize) -> usize
     if from < to { to - from } else { 0 }
 }
 
+#[tactic(auto, using(crate::proofs::Steps::bytes_between))]
 fn codes_between<'a>(
     def: &'a [u8],
     call: &'a [u8],
@@ -35,6 +36,7 @@ fn codes_between<'a>(
     )
 }
 
+#[tactic(auto, using(crate::proofs::Steps::eights_between))]
 fn values_between<'a>(
     def: &'a [u8],
     call: &'a [u8],
@@ -54,6 +56,7 @@ fn values_between<'a>(
     )
 }
 
+#[tactic(auto, using(crate::proofs::Steps::bytes_between))]
 pub fn text_between<'a>(
     def: &'a [u8],
     call: &'a [u8],
@@ -74,6 +77,7 @@ pub fn text_between<'a>(
 }
 
 // Appends the entries from one place to another, of the call's tape or of the definition's.
+#[tactic(auto, unfolding(crate::specs::Output::copy_in))]
 pub fn copy<'a>(
     def: &'a [u8],
     call: &'a [u8],

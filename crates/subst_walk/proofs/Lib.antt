@@ -1,3 +1,3 @@
 -- The laws that several proofs of the crate cite.
 pub mod TreesRight
-mod Walking
+pub mod Walking

@@ -1,6 +1,7 @@
 -- Where a body's tree stands, the walkers write the entries of the substituted tree behind what was written, or refuse as the tree's
 -- definition does. By induction on the nesting that is left; each node is one clause.
 -- Assumes nothing.
+use Rattle.std.proofs.Common.{Result, Ok}
 use Prim.Native.Nat.{ℕ, zero, suc, ◌≤◌}
 use native.Mathlib.Omega.{arith}
 use mathlib.Core.Path.{◌≡◌, refl, sym, ap, ◌∙◌}
@@ -41,6 +42,7 @@ use Rattle.area.specs.Area.{Area}
 use Rattle.area.proofs.Within.{within_refl}
 use Rattle.messages.specs.Reason.{refused_at, message_of}
 use Rattle.messages.specs.declared.Reason.TheVariants.{WithoutMessage}
+use Rattle.messages.specs.declared.Refused.{Refused}
 use Rattle.walk_state.specs.Writing.{Progress, state, going}
 use Rattle.subst_state.specs.Output.{paste_in}
 use Rattle.subst_places.specs.Parameters.{Tapes, items_in, within_in, since_within_in, put_within_in, binder_slot_in, binder_in, binders_in}
@@ -208,13 +210,13 @@ module _ {T : Tapes} {maps : SubstMaps} (B : Bound T maps) where
       abbrev walked : Area → Progress
       walked P = W.condition (going left k P)
 
-      abbrev put : Interval → Progress → Progress
+      abbrev put : Result Interval Refused → Progress → Progress
       put i = put_within_in T.definition T.call T.maps i k
 
       module _ {P : Area} {es : List Entry} (lw : WalkMatches T flat_condition P (es ++ entry 6 s ∷ []) (walked P) within (subst_temporal_condition maps l k))
           (hr : At behind (flat_condition r)) (dr : deep_condition node_weight r ≤ n) where
         -- what the within became stands behind the left side, and the right side behind it
-        since_sides_matches : (i : Interval) (u : WithinSpec) → Strict (put i)
+        since_sides_matches : (i : Result Interval Refused) (u : WithinSpec) → Strict (put i)
             → ((k₁ : ℕ) (Q : Area) (fs : List Entry) → Written Q fs
             → WalkMatches T flat_within_list Q fs (put i (going within k₁ Q)) behind (Outcome.done u k₁))
             → WalkMatches T flat_condition P es (W.condition (put i (walked P))) (past (flat_condition r) behind)
@@ -228,13 +230,13 @@ module _ {T : Tapes} {maps : SubstMaps} (B : Bound T maps) where
             (λ u' k₂ Q₂ e₂ x₂.
             map_matches T (λ r'. Condition.Since s l' u' r') (λ r' k₃ e₃. simp append_assoc) (R.condition r k₂ hr dr x₂)))
 
-        since_matches : {i : Interval} {o : Outcome WithinSpec} → WithinMatches B within behind k i o
+        since_matches : {i : Result Interval Refused} {o : Outcome WithinSpec} → WithinMatches B within behind k i o
             → WalkMatches T flat_condition P es (W.condition (put i (walked P))) (past (flat_condition r) behind)
             (proceed o (λ u. subst_temporal_condition maps l >>= λ l'. subst_temporal_condition maps r >>= λ r'. pure
             (Condition.Since s l' u r')))
         unfolding open_outcome put_within_in paste_in
-        since_matches (own {w = u} i q) = since_sides_matches (interval.Own behind) u (λ f k₁ bytes. refl) (λ k₁ Q fs x. within_matches B (own i q) x)
-        since_matches (given {i = d} {arg} i) = since_sides_matches (interval.Given arg behind) (WithinSpec.Concrete d) (λ f k₁ bytes. refl)
+        since_matches (own {w = u} i q) = since_sides_matches (Ok (interval.Own behind)) u (λ f k₁ bytes. refl) (λ k₁ Q fs x. within_matches B (own i q) x)
+        since_matches (given {i = d} {arg} i) = since_sides_matches (Ok (interval.Given arg behind)) (WithinSpec.Concrete d) (λ f k₁ bytes. refl)
             (λ k₁ Q fs x. within_matches B {p = within} (given i) x)
         since_matches (refused q) = refuses (walked P).bytes (R.strict_condition _ k (walked P).bytes) q (gives_kept T lw)
 
@@ -244,7 +246,7 @@ module _ {T : Tapes} {maps : SubstMaps} (B : Bound T maps) where
           (subst_temporal_condition maps (Condition.Since s l v r) k)
       unfolding since_in since_within_in subst_temporal_condition open_outcome
       since_right h hl hv hr dl dr w =
-          let found : Progress → Interval = λ X. since_within_in T.definition T.table T.maps s left X.walk in
+          let found : Progress → Result Interval Refused = λ X. since_within_in T.definition T.table T.maps s left X.walk in
           copy_own_matches T (λ X. W.condition (put (found (W.condition X)) (W.condition X))) h w (λ Q x.
           let lw = R.condition l k hl dl x in
           rw (gives_behind T T.definition T.maps.definition left lw (inside_skip hl (passes_condition l) (omega arith))) (since_matches lw hr dr (within_found B v s k hv)))

@@ -1,20 +1,15 @@
 -- Substitution as a function of the tapes, a place and the output: what the walkers compute, by recursion on the nesting that is left.
 -- Assumes nothing.
-use Rattle.std.specs.Prelude.{ℕ, zero, suc, List}
+use Rattle.nodes.specs.declared.Refusal.{Refusal}
+use Rattle.std.specs.Prelude.{ℕ, zero, suc, List, Result, Ok, Err}
 use Rattle.nodes.specs.Node.{on_value, expect_at, condition_at, term_at, agg_at}
 use Rattle.tape.specs.declared.layout.Place.{Place}
 use Rattle.nodes.specs.declared.ConditionNode.{ConditionNode}
 use Rattle.nodes.specs.declared.ConditionNode.TheVariants as condition
-use Rattle.nodes.specs.declared.ConditionRead.{ConditionRead}
-use Rattle.nodes.specs.declared.ConditionRead.TheVariants as cr
 use Rattle.nodes.specs.declared.TermNode.{TermNode}
 use Rattle.nodes.specs.declared.TermNode.TheVariants as term
-use Rattle.nodes.specs.declared.TermRead.{TermRead}
-use Rattle.nodes.specs.declared.TermRead.TheVariants as tr
 use Rattle.nodes.specs.declared.AggNode.{AggNode}
 use Rattle.nodes.specs.declared.AggNode.TheVariants as agg
-use Rattle.nodes.specs.declared.AggRead.{AggRead}
-use Rattle.nodes.specs.declared.AggRead.TheVariants as gr
 use Rattle.walk_state.specs.Writing.{Progress, progress, state, after, without_message_at, unread}
 use Rattle.subst_state.specs.Output.{copy_own_in, gensym_in}
 use Rattle.subst_places.specs.Parameters.{
@@ -33,6 +28,7 @@ use Rattle.subst_places.specs.Refines.{shape_in, fold_in}
 use Rattle.walk_state.specs.declared.writing.State.{State}
 use Rattle.walk_state.specs.declared.writing.Walk.TheVariants as walk
 use Rattle.subst_places.specs.declared.places.Interval.{Interval}
+use Rattle.messages.specs.declared.Refused.{Refused}
 
 -- the walkers one level down; a term has the span that its refusals name
 pub record Walkers : Type 0 where
@@ -62,7 +58,7 @@ module _ (T : Tapes) (W : Walkers) where
   unfoldable pub since_in : ℕ → State → Place → List ℕ → Progress
   since_in span st left bytes =
       let l : Progress = W.condition (own_copied T st left bytes) in
-      let i : Interval = since_within_in T.definition T.table T.maps span left l.walk in
+      let i : Result Interval Refused = since_within_in T.definition T.table T.maps span left l.walk in
       W.condition (put_within_in T.definition T.call T.maps i st.charged l)
 
   -- a name and a term
@@ -132,17 +128,17 @@ module _ (T : Tapes) (W : Walkers) where
 
   -- ---------------------------------------------------------------- one level more
 
-  abbrev pub on_condition : State → List ℕ → ConditionRead → Progress
-  on_condition st bytes (cr.Node node next) = condition_node_in node st next bytes
-  on_condition st bytes (cr.Refused r) = unread st bytes
+  abbrev pub on_condition : State → List ℕ → Result (ConditionNode × Place) Refusal → Progress
+  on_condition st bytes (Ok (node, next)) = condition_node_in node st next bytes
+  on_condition st bytes (Err r) = unread st bytes
 
-  abbrev pub on_agg : State → List ℕ → AggRead → Progress
-  on_agg st bytes (gr.Node node next) = agg_node_in node st next bytes
-  on_agg st bytes (gr.Refused r) = unread st bytes
+  abbrev pub on_agg : State → List ℕ → Result (AggNode × Place) Refusal → Progress
+  on_agg st bytes (Ok (node, next)) = agg_node_in node st next bytes
+  on_agg st bytes (Err r) = unread st bytes
 
-  abbrev pub on_term : ℕ → State → List ℕ → TermRead → Progress
-  on_term span st bytes (tr.Node node next) = term_node_in span node st next bytes
-  on_term span st bytes (tr.Refused r) = unread st bytes
+  abbrev pub on_term : ℕ → State → List ℕ → Result (TermNode × Place) Refusal → Progress
+  on_term span st bytes (Ok (node, next)) = term_node_in span node st next bytes
+  on_term span st bytes (Err r) = unread st bytes
 
   abbrev pub deeper : Walkers
   deeper =

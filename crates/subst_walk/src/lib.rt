@@ -8,11 +8,8 @@ ghost use Rattle.walk_state.specs.Writing.{progress};
 ghost use Rattle.subst_places.specs.Parameters.{tapes, items_in};
 ghost use Rattle.subst_walk.specs.Walkers.{walkers, condition_node_in, agg_node_in, term_node_in, both_in, inner_in, formerly_in, since_in, predicate_in, field_in, sides_in, tp_in, exists_in, inject_in, refine_in};
 
-use grammar::codes::CONDITION;
-use nodes::{
-    AggNode, AggRead, ConditionNode, ConditionRead, TermNode, TermRead, ValueRead, expect,
-    read_agg, read_condition, read_term,
-};
+use grammar::code;
+use nodes::{AggNode, ConditionNode, TermNode, expect, read_agg, read_condition, read_term};
 use subst_places::places::{
     param_term, put_within, since_within, subst_binder, subst_binder_slot, subst_binders,
     subst_sigil_ref, subst_within,
@@ -23,6 +20,7 @@ use subst_state::paste::{copy_own, gensym_for};
 use tape::layout::Place;
 use walk_state::writing::{State, Walk, without_message};
 
+#[tactic(auto, using(crate::proofs::Walking::hands_on_condition, crate::proofs::Walking::too_deep_condition, crate::proofs::Walking::one_down_condition))]
 #[cycle(walk)]
 pub fn subst_temporal_condition<'a>(
     n: usize,
@@ -41,12 +39,13 @@ pub fn subst_temporal_condition<'a>(
     if n == 0 {
         return without_message(3, 0, st.charged);
     }
-    let ConditionRead::Node(node, next) = read_condition(def, m.definition, st.place) else {
+    let Ok((node, next)) = read_condition(def, m.definition, st.place) else {
         return without_message(2, 0, st.charged);
     };
     condition(n - 1, def, call, args, buf, m, node, st, next)
 }
 
+#[tactic(auto, unfolding(crate::specs::Walkers::condition_node_in))]
 #[cycle(walk)]
 fn condition<'a>(
     n: usize,
@@ -62,11 +61,11 @@ fn condition<'a>(
     ensures { progress result buf.new ≡ condition_node_in (tapes def.now call.now args.now m) (walkers (tapes def.now call.now args.now m) n) node st next buf.old }
 {
     match node {
-        ConditionNode::And(_) => both(n, def, call, args, buf, m, st, next),
-        ConditionNode::Or(_) => both(n, def, call, args, buf, m, st, next),
+        ConditionNode::And(_) | ConditionNode::Or(_) => both(n, def, call, args, buf, m, st, next),
         ConditionNode::Not(_) => inner(n, def, call, args, buf, m, st, next),
-        ConditionNode::Formerly(span) => formerly(n, def, call, args, buf, m, span, st, next),
-        ConditionNode::Previous(span) => formerly(n, def, call, args, buf, m, span, st, next),
+        ConditionNode::Formerly(span) | ConditionNode::Previous(span) => {
+            formerly(n, def, call, args, buf, m, span, st, next)
+        }
         ConditionNode::Since(span) => since(n, def, call, args, buf, m, span, st, next),
         ConditionNode::Predicate(span) => predicate(n, def, call, args, buf, m, span, st, next),
         ConditionNode::Comparison(span) => sides(n, def, call, args, buf, m, span, st, next),
@@ -82,6 +81,7 @@ fn condition<'a>(
     }
 }
 
+#[tactic(auto, unfolding(crate::specs::Walkers::both_in))]
 #[cycle(walk)]
 fn both<'a>(
     n: usize,
@@ -100,6 +100,7 @@ fn both<'a>(
     subst_temporal_condition(n, def, call, args, buf, m, l)
 }
 
+#[tactic(auto, unfolding(crate::specs::Walkers::inner_in))]
 #[cycle(walk)]
 fn inner<'a>(
     n: usize,
@@ -118,6 +119,7 @@ fn inner<'a>(
 }
 
 // Formerly and Previous: the within, then the condition.
+#[tactic(auto, unfolding(crate::specs::Walkers::formerly_in))]
 #[cycle(walk)]
 fn formerly<'a>(
     n: usize,
@@ -139,6 +141,7 @@ fn formerly<'a>(
 }
 
 // The tape has left, within, right. A refusal of the within comes before one of the left side, with what was charged before both.
+#[tactic(auto, unfolding(crate::specs::Walkers::since_in))]
 #[cycle(walk)]
 fn since<'a>(
     n: usize,
@@ -160,6 +163,7 @@ fn since<'a>(
     subst_temporal_condition(n, def, call, args, buf, m, i)
 }
 
+#[tactic(auto, unfolding(crate::specs::Walkers::predicate_in))]
 #[cycle(walk)]
 fn predicate<'a>(
     n: usize,
@@ -174,13 +178,14 @@ fn predicate<'a>(
 ) -> Walk
     ensures { progress result buf.new ≡ predicate_in (tapes def.now call.now args.now m) (walkers (tapes def.now call.now args.now m) n) span st next buf.old }
 {
-    let ValueRead::Value(count, first) = expect(def, m.definition, next, 41) else {
+    let Some((count, first)) = expect(def, m.definition, next, code::LIST) else {
         return without_message(2, 0, st.charged);
     };
     let w = copy_own(def, call, buf, m, st, first);
     fields(n, def, call, args, buf, m, span, count, w)
 }
 
+#[tactic(auto, using(subst_places::proofs::Items::hands_on, subst_places::proofs::Items::no_more, subst_places::proofs::Items::item_walked))]
 #[cycle(walk)]
 fn fields<'a>(
     n: usize,
@@ -196,18 +201,17 @@ fn fields<'a>(
     ensures { progress result buf.new ≡ items_in (field_in (tapes def.now call.now args.now m) (walkers (tapes def.now call.now args.now m) n) span) count (progress w buf.old) }
 {
     let mut a = w;
-    let mut left = count;
-    while 0 < left {
+    for _ in 0..count {
         let Walk::Going(_) = a else {
             return a;
         };
         a = field(n, def, call, args, buf, m, span, a);
-        left = left - 1;
     }
     a
 }
 
 // A name and a term.
+#[tactic(auto, unfolding(crate::specs::Walkers::field_in))]
 #[cycle(walk)]
 fn field<'a>(
     n: usize,
@@ -224,7 +228,7 @@ fn field<'a>(
     let Walk::Going(st) = w else {
         return w;
     };
-    let ValueRead::Value(_, value) = expect(def, m.definition, st.place, 40) else {
+    let Some((_, value)) = expect(def, m.definition, st.place, code::TEXT) else {
         return without_message(2, 0, st.charged);
     };
     let v = copy_own(def, call, buf, m, st, value);
@@ -232,6 +236,7 @@ fn field<'a>(
 }
 
 // A comparison's two terms, and those of arithmetic, with the span that messages show.
+#[tactic(auto, unfolding(crate::specs::Walkers::sides_in))]
 #[cycle(walk)]
 fn sides<'a>(
     n: usize,
@@ -251,6 +256,7 @@ fn sides<'a>(
     subst_temporal_term(n, def, call, args, buf, m, span, l)
 }
 
+#[tactic(auto, unfolding(crate::specs::Walkers::tp_in))]
 fn tp<'a>(
     def: &'a [u8],
     call: &'a [u8],
@@ -267,6 +273,7 @@ fn tp<'a>(
     subst_binder_slot(def, call, args, buf, m, span, w)
 }
 
+#[tactic(auto, unfolding(crate::specs::Walkers::exists_in))]
 #[cycle(walk)]
 fn exists<'a>(
     n: usize,
@@ -287,6 +294,7 @@ fn exists<'a>(
 }
 
 // Base, fields, then the fold: the fields stand behind the base's own, and the base's count grows.
+#[tactic(auto, unfolding(crate::specs::Walkers::refine_in))]
 #[cycle(walk)]
 fn refine<'a>(
     n: usize,
@@ -303,17 +311,13 @@ fn refine<'a>(
     ensures { progress result buf.new ≡ refine_in (tapes def.now call.now args.now m) (walkers (tapes def.now call.now args.now m) n) span own st next buf.old }
 {
     let shape = shape_of(def, args, m, next);
-    let out = st.out;
-    let start = State {
-        place: next,
-        out,
-        charged: st.charged,
-    };
+    let start = State { place: next, ..st };
     let base = subst_temporal_condition(n, def, call, args, buf, m, Walk::Going(start));
-    inject(n, def, call, args, buf, m, span, out.n, own, shape, base)
+    inject(n, def, call, args, buf, m, span, st.out.n, own, shape, base)
 }
 
 // The fields behind a base that was written at entry `base`, and their fold.
+#[tactic(auto, unfolding(crate::specs::Walkers::inject_in))]
 #[cycle(walk)]
 fn inject<'a>(
     n: usize,
@@ -333,19 +337,15 @@ fn inject<'a>(
     let Walk::Going(st) = w else {
         return w;
     };
-    let ValueRead::Value(count, first) = expect(def, m.definition, st.place, 41) else {
+    let Some((count, first)) = expect(def, m.definition, st.place, code::LIST) else {
         return without_message(2, 0, st.charged);
     };
-    let out = st.out;
-    let items = State {
-        place: first,
-        out,
-        charged: st.charged,
-    };
+    let items = State { place: first, ..st };
     let f = fields(n, def, call, args, buf, m, span, count, Walk::Going(items));
     fold_refine(buf, base, count, own, shape, f)
 }
 
+#[tactic(auto, using(crate::proofs::Walking::hands_on_agg, crate::proofs::Walking::too_deep_agg, crate::proofs::Walking::one_down_agg))]
 #[cycle(walk)]
 fn subst_temporal_agg<'a>(
     n: usize,
@@ -364,12 +364,13 @@ fn subst_temporal_agg<'a>(
     if n == 0 {
         return without_message(3, 0, st.charged);
     }
-    let AggRead::Node(node, next) = read_agg(def, m.definition, st.place) else {
+    let Ok((node, next)) = read_agg(def, m.definition, st.place) else {
         return without_message(2, 0, st.charged);
     };
     agg(n - 1, def, call, args, buf, m, node, st, next)
 }
 
+#[tactic(auto, unfolding(crate::specs::Walkers::agg_node_in))]
 #[cycle(walk)]
 fn agg<'a>(
     n: usize,
@@ -400,6 +401,7 @@ fn agg<'a>(
     }
 }
 
+#[tactic(auto, using(crate::proofs::Walking::hands_on_term, crate::proofs::Walking::too_deep_term, crate::proofs::Walking::one_down_term))]
 #[cycle(walk)]
 pub fn subst_temporal_term<'a>(
     n: usize,
@@ -419,12 +421,13 @@ pub fn subst_temporal_term<'a>(
     if n == 0 {
         return without_message(3, 0, st.charged);
     }
-    let TermRead::Node(node, next) = read_term(def, m.definition, st.place) else {
+    let Ok((node, next)) = read_term(def, m.definition, st.place) else {
         return without_message(2, 0, st.charged);
     };
     term(n - 1, def, call, args, buf, m, span, node, st, next)
 }
 
+#[tactic(auto, unfolding(crate::specs::Walkers::term_node_in))]
 #[cycle(walk)]
 fn term<'a>(
     n: usize,
@@ -442,7 +445,7 @@ fn term<'a>(
 {
     match node {
         TermNode::ParamRef(name) => param_term(def, call, args, buf, m, span, name, st, next),
-        TermNode::BinderRef(name) => gensym_for(def, buf, m, 27, name, st, next),
+        TermNode::BinderRef(name) => gensym_for(def, buf, m, code::VAR, name, st, next),
         TermNode::Array(count) => {
             let w = copy_own(def, call, buf, m, st, next);
             terms(n, def, call, args, buf, m, span, count, w)
@@ -452,11 +455,11 @@ fn term<'a>(
             subst_temporal_agg(n, def, call, args, buf, m, w)
         }
         TermNode::Arith => sides(n, def, call, args, buf, m, span, st, next),
-        TermNode::Var(_) => copy_own(def, call, buf, m, st, next),
-        TermNode::Plain => copy_own(def, call, buf, m, st, next),
+        TermNode::Var(_) | TermNode::Plain => copy_own(def, call, buf, m, st, next),
     }
 }
 
+#[tactic(auto, using(subst_places::proofs::Items::hands_on, subst_places::proofs::Items::no_more, subst_places::proofs::Items::item_walked))]
 #[cycle(walk)]
 fn terms<'a>(
     n: usize,
@@ -472,13 +475,11 @@ fn terms<'a>(
     ensures { progress result buf.new ≡ items_in ((walkers (tapes def.now call.now args.now m) n).term span) count (progress w buf.old) }
 {
     let mut a = w;
-    let mut left = count;
-    while 0 < left {
+    for _ in 0..count {
         let Walk::Going(_) = a else {
             return a;
         };
         a = subst_temporal_term(n, def, call, args, buf, m, span, a);
-        left = left - 1;
     }
     a
 }

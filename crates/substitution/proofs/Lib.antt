@@ -1,5 +1,5 @@
 -- The laws that several proofs of the crate cite.
-mod Operation
+pub mod Operation
 pub mod Demand3
 pub mod ArgumentSize
 pub mod TreesAccepted

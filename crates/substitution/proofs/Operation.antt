@@ -1,10 +1,11 @@
 -- The substitution's answer: what the walk came to, over two accepted tapes or their rewritings, is what the definition says.
 -- Assumes nothing.
+use Rattle.std.proofs.Common.{Ok, Err}
 use Prim.Native.Nat.{ℕ, ◌≤◌, ◌<◌, ◌^◌}
 use native.Mathlib.Omega.{arith}
 use mathlib.Core.Path.{◌≡◌, sym, ap, subst, ◌∙◌}
 use mathlib.Core.List.{List}
-use mathlib.Core.Bool.{true, ◌&&◌}
+use mathlib.Core.Bool.{true, false, ◌&&◌}
 use lib.Dec.{eqb, eqb→eq}
 use lib.ListN.{length, replicate, length-replicate}
 use Rattle.format.specs.Ast.{Call, MacroDef, Tree}
@@ -19,35 +20,19 @@ use Rattle.definition.specs.Substitute.{substitute}
 use Rattle.definition.proofs.Kept.{substitute_bounded}
 use Rattle.grammar.specs.Grammar as grammar
 use Rattle.tape.specs.Ors.{ors_in}
+use Rattle.tape.specs.declared.header.Fault.{Fault}
 use Rattle.tape.specs.declared.layout.Layout.{Layout}
+use Rattle.tape.specs.Header.{fault_number}
 use Rattle.tape.proofs.Located.{Alone}
 use Rattle.tape.proofs.Roots.{Accepted, definition_root_lem, call_root_lem, accepted_root}
 use Rattle.de_morgan.specs.Rewritten.{rewritten_in, rewritten_layout}
 use Rattle.de_morgan.proofs.Rewritten.{rewritten_alone, given_alone}
-use Rattle.walk_state.specs.Writing.{progress}
-use Rattle.walk_state.specs.declared.writing.Walk.{Walk}
-use Rattle.answer.specs.Matches.{buffers, ended, AnswersOutcome}
+use Rattle.answer.specs.Matches.{buffers, ended}
 use Rattle.answer.specs.Tapes.{accept_two}
-use Rattle.answer.specs.declared.tapes.Accepted.TheVariants.{Both, Refused}
-use Rattle.answer.proofs.Operations.{first_accepted, second_accepted, long_enough, read_two, tree_refused, tree_walked}
+use Rattle.answer.proofs.Operations.{first_accepted, second_accepted, long_enough, read_two, tree_refused, tree_short, tree_walked}
 use Rattle.subst_call.specs.Front.{tapes_in}
 use Rattle.substitution.specs.Substituted.{AnswersSubstitution}
 use Rattle.substitution.proofs.TreesAccepted.{substitution_matches}
-
--- the walk leaves the work buffer as long as it was
-pub answered : (r m limit file : ℕ) (definition input : List ℕ) (d c : Layout) {a : Answer} {w : Walk} (work bytes : List ℕ)
-    → length bytes ≡ length work → progress w bytes ≡ tapes_in definition d input c limit file work
-    → AnswersOutcome definition d input c w bytes (buffers r (length bytes) m) a
-    → AnswersSubstitution definition d input c limit file work (buffers r (length work) m) a
-answered r m limit file definition input d c {a} {w} work bytes kept walked k =
-    rw (← walked) (subst (λ (n : ℕ). AnswersOutcome definition d input c w bytes (buffers r n m) a) kept k)
-
--- the walk went over the rewritten tapes
-pub answered_rewritten : (limit file : ℕ) (definition input zeros : List ℕ) (d c : Layout) {e f : Layout} {first second : List ℕ} (work : List ℕ) (b : Buffers)
-    {a : Answer} → (e ≡ rewritten_layout definition d) × (first ≡ rewritten_in definition d zeros)
-    → (f ≡ rewritten_layout input c) × (second ≡ rewritten_in input c zeros) → AnswersSubstitution first e second f limit file work b a
-    → AnswersSubstitution (rewritten_in definition d zeros) (rewritten_layout definition d) (rewritten_in input c zeros) (rewritten_layout input c) limit file work b a
-answered_rewritten limit file definition input zeros d c work b p q k = rw (← p.0, ← p.1, ← q.0, ← q.1) k
 
 -- what is found of the trees as they were given
 abbrev find : (limit file : ℕ) → MacroDef → Call → Outcome Tree
@@ -63,13 +48,18 @@ module _ (r l m limit file : ℕ) (definition input : List ℕ) (p : Bytes defin
   as_accepted =
       ap (tree_answer b) (read_two rewrites_definition rewrites_call lawful_definition lawful_call definition input p q (substitute limit file))
 
+  -- a buffer is too short
+  pub short : {a : Answer} → long_buffers b ≡ false → a ≡ ended b (number_alone 1) → a ≡ substitute_answer b limit file definition input
+  unfolding substitute_answer
+  short h e = tree_short b _ h e
+
   -- a tape is refused
-  pub refused : {n : ℕ} {a : Answer} → long_buffers b ≡ true → accept_two definition grammar.definition input grammar.call ≡ Refused n
-      → a ≡ ended b (number_alone n) → a ≡ substitute_answer b limit file definition input
+  pub refused : {f : Fault} {a : Answer} → long_buffers b ≡ true → accept_two definition grammar.definition input grammar.call ≡ Err f
+      → a ≡ ended b (number_alone (fault_number f)) → a ≡ substitute_answer b limit file definition input
   refused long e k = tree_refused definition_root call_root definition_root_lem call_root_lem (find limit file) b definition input long e k ∙ sym as_accepted
 
   module _ (small : limit < 2 ^ 32) (long : long_buffers b ≡ true) {d c : Layout}
-      (e : accept_two definition grammar.definition input grammar.call ≡ Both d c) (work : List ℕ) (room : l ≡ length work) where
+      (e : accept_two definition grammar.definition input grammar.call ≡ Ok (d, c)) (work : List ℕ) (room : l ≡ length work) where
     first : (x : MacroDef) × Accepted definition_root definition d x
     first = accepted_root definition_root_lem definition p d (first_accepted definition input grammar.definition grammar.call e)
 
@@ -79,6 +69,7 @@ module _ (r l m limit file : ℕ) (definition input : List ℕ) (p : Bytes defin
     walked : {s t : List ℕ} {d' c' : Layout} {a : Answer} → Alone definition_root s d' (rewritten definition_root first.0)
         → Alone call_root t c' (rewritten call_root second.0) → AnswersSubstitution s d' t c' limit file work b a
         → a ≡ substitute_answer b limit file definition input
+    unfolding AnswersSubstitution
     walked {s} {t} {d'} {c'} h g k =
         let X = tapes_in s d' t c' limit file work in
         let matches = substitution_matches limit file (rewritten definition_root first.0) (rewritten call_root second.0) h g work

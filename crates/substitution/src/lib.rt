@@ -7,7 +7,7 @@ ghost use Rattle.de_morgan.specs.Rewritten.{rewritten_in, rewritten_layout};
 ghost use Rattle.definition.specs.Answers.{substitute_answer};
 ghost use Rattle.substitution.specs.Substituted.{AnswersSubstitution};
 
-use answer::tapes::{Accepted, accept_two};
+use answer::tapes::accept_two;
 use answer::{Answer, answer_walk, long_buffers, number_alone};
 use de_morgan::{rewrite, without_or};
 use grammar::codes::{CALL, DEFINITION};
@@ -15,6 +15,7 @@ use subst_call::substitute_tapes;
 use tape::layout::Layout;
 
 // The walk over two tapes, and its answer.
+#[tactic(auto, unfolding(crate::specs::Substituted::AnswersSubstitution))]
 fn substitute_in<'a>(
     definition: &'a [u8],
     d: Layout,
@@ -54,6 +55,7 @@ fn substitute_rewritten(
 }
 
 // The operation: the answer and every byte of the three buffers are what the definition says, for every input and every buffer.
+#[tactic(auto, using(format::proofs::Accepted::bytes_all, crate::proofs::Operation::short, crate::proofs::Operation::refused, crate::proofs::Operation::substituted, crate::proofs::Operation::substituted_rewritten), unfolding(definition::specs::Answers::number_alone))]
 pub fn substitute<'a>(
     definition: &'a [u8],
     call: &'a [u8],
@@ -68,15 +70,11 @@ pub fn substitute<'a>(
     if !long_buffers(res.len(), work.len(), message.len()) {
         return number_alone(1, 0, res, work, message);
     }
-    let accepted = accept_two(definition, DEFINITION, call, CALL);
-    match accepted {
-        Accepted::Both(d, c) => {
-            if without_or(definition, d, call, c) {
-                substitute_in(definition, d, call, c, limit, file, res, work, message)
-            } else {
-                substitute_rewritten(definition, d, call, c, limit, file, res, work, message)
-            }
+    match accept_two(definition, DEFINITION, call, CALL) {
+        Err(fault) => number_alone(fault.number(), 0, res, work, message),
+        Ok((d, c)) if without_or(definition, d, call, c) => {
+            substitute_in(definition, d, call, c, limit, file, res, work, message)
         }
-        Accepted::Refused(n) => number_alone(n, 0, res, work, message),
+        Ok((d, c)) => substitute_rewritten(definition, d, call, c, limit, file, res, work, message),
     }
 }

@@ -1,10 +1,13 @@
 -- Acceptance, by any table that is well made: what the scan of a slice answers is what format's `accept` gives, for every list of bytes.
 -- Assumes nothing.
+use Rattle.tape.specs.declared.header.Fault.TheVariants.{Malformed, TooLarge}
+use Rattle.tape.specs.declared.header.Fault.{Fault}
+use Rattle.std.proofs.Common.{Option, Some, None, Result, Ok, Err}
 use Prim.Native.Nat.{ℕ, ◌+◌, ◌*◌, ◌≤◌, ◌<◌}
 use mathlib.Core.Path.{◌≡◌, refl, ap, sym, ◌∙◌}
 use mathlib.Core.Bool.{Bool, true, false, not, ◌&&◌}
 use mathlib.Core.List.{List, [], ◌∷◌, ◌++◌, append-nil}
-use mathlib.Core.Option.{Option, none, some}
+use mathlib.Core.Option.{Option as Maybe, none, some}
 use native.Mathlib.Nat.{add-zero, zero-add, sub-zero}
 use native.Mathlib.Omega.{arith}
 use borrow.Author.Tests.{eq-eqb, eqb-true, eqb-false, not-true}
@@ -32,12 +35,8 @@ use Rattle.tape.specs.Pick.{pick}
 use Rattle.grammar.specs.Waits.{wait, is_limited}
 use Rattle.grammar.proofs.Marks.{Table}
 use Rattle.tape.specs.Scan.{scan_of, starts, scan_at, text_passes}
-use Rattle.tape.specs.declared.header.Opened.{Opened}
-use Rattle.tape.specs.declared.header.Opened.TheVariants.{Tape, Refused}
 use Rattle.tape.specs.declared.layout.Layout.{Layout}
 use Rattle.tape.specs.declared.layout.Place.{Place}
-use Rattle.tape.specs.declared.scan.Scanned.{Scanned}
-use Rattle.tape.specs.declared.scan.Scanned.TheVariants.{Ends, Malformed}
 use Rattle.tape.proofs.Counting.{entries_ors}
 use Rattle.tape.proofs.Holding.{holding, starting}
 use Rattle.tape.proofs.Found.{Language, found, took_all}
@@ -90,11 +89,11 @@ pub record Holds {A : Type 0} (root : Root A) (s : List ℕ) (a : A) : Type 0 wh
   pub keeping : T (small root (root.flat a) a)
 
 -- the answer to a reading
-pub data Answers {A : Type 0} (root : Root A) (s : List ℕ) : Opened → Reading A → Type 0 where
-  answers_2 : Answers root s (Refused 2) Reading.malformed
-  answers_3 : Answers root s (Refused 3) Reading.too_large
+pub data Answers {A : Type 0} (root : Root A) (s : List ℕ) : Result Layout Fault → Reading A → Type 0 where
+  answers_2 : Answers root s (Err Malformed) Reading.malformed
+  answers_3 : Answers root s (Err TooLarge) Reading.too_large
   answers_tape : {a : A} {l : Layout} → Holds root s a → l ≡ tape_layout (length (root.flat a)) (length (text_of (root.flat a)))
-      → Answers root s (Tape l) (Reading.accepted a)
+      → Answers root s (Ok l) (Reading.accepted a)
 
 -- ------------------------------------------------------------------ limits
 
@@ -128,20 +127,20 @@ module _ (longest : ℕ) (limited : is_limited longest ≡ true) where
   from_texts h = whole_all (all_map (λ e w. rw (passes_well e.text) at w) h)
 
 -- a scan that did not use up entries and text is a refusal
-judged_else : (s : List ℕ) (l : Layout) (x : Scanned) → ((p : Place) (o : Bool) → x ≡ Ends p o → p.at ≡ l.entries → p.text ≡ l.size → ⊥)
-    → judged s l x ≡ Refused 2
-judged_else s l Malformed not-all = refl
-judged_else s l (Ends p o) not-all =
+judged_else : (s : List ℕ) (l : Layout) (x : Option (Place × Bool)) → ((p : Place) (o : Bool) → x ≡ Some (p, o) → p.at ≡ l.entries → p.text ≡ l.size → ⊥)
+    → judged s l x ≡ Err Malformed
+judged_else s l None not-all = refl
+judged_else s l (Some (p, o)) not-all =
     go (eqb p.at l.entries) (eqb p.text l.size) (eqb-true p.at l.entries) (eqb-true p.text l.size)
   where
     go : (a b : Bool) → (a ≡ true → p.at ≡ l.entries) → (b ≡ true → p.text ≡ l.size)
-        → pick a (pick b (figured s l o) (Refused 2)) (Refused 2) ≡ Refused 2
+        → pick a (pick b (figured s l o) (Err Malformed)) (Err Malformed) ≡ Err Malformed
     go true true h g = absurd (not-all p o refl (h refl) (g refl))
     go true false h g = refl
     go false b h g = refl
 
 -- the scan's figures and that of the rewritten entries are the limits
-both_figures : (short few rest : Bool) (x y : Opened)
+both_figures : (short few rest : Bool) (x y : Result Layout Fault)
     → pick (not (short && rest)) x (pick few y x) ≡ pick (not ((short && few) && rest)) x y
 both_figures true true rest x y = refl
 both_figures true false true x y = refl
@@ -165,7 +164,7 @@ module _ {t : Table} {trees : Language t} {longest : ℕ} {A : Type 0} {root : R
   parsed es = go (build es) refl
     where
       -- the entries of a tree are built and taken
-      known : (a : A) → root.flat a ≡ es → (o : Option Stack) → build es ≡ o → o ≡ some (r.rooted a).stack
+      known : (a : A) → root.flat a ≡ es → (o : Maybe Stack) → build es ≡ o → o ≡ some (r.rooted a).stack
       known a e o b = sym b ∙ ap build (sym e) ∙ (r.rooted a).built
 
       taken : (a : A) → root.flat a ≡ es → (st : Stack) → build es ≡ some st → root.reader st ≡ some (a, [])
@@ -173,11 +172,11 @@ module _ {t : Table} {trees : Language t} {longest : ℕ} {A : Type 0} {root : R
           let same : st ≡ (r.rooted a).stack = some_eq (known a e (some st) b) in
           ap root.reader same ∙ (r.rooted a).taken
 
-      go : (o : Option Stack) → build es ≡ o → Parsed root es (read_stack root es o)
+      go : (o : Maybe Stack) → build es ≡ o → Parsed root es (read_stack root es o)
       go none b = no_tree (λ a e. let z : ◌≡◌ {A = ℕ} 0 1 = cc (known a e none b) in omega arith)
       go (some st) b = next (root.reader st) refl
         where
-          next : (o : Option (A × Stack)) → root.reader st ≡ o → Parsed root es (read_root root es o)
+          next : (o : Maybe (A × Stack)) → root.reader st ≡ o → Parsed root es (read_root root es o)
           next none q = no_tree (λ a e. let z : ◌≡◌ {A = ℕ} 0 1 = cc (taken a e st b) in omega arith)
           next (some x) q = last x.1 q
             where
@@ -205,11 +204,11 @@ module _ {t : Table} {trees : Language t} {longest : ℕ} {A : Type 0} {root : R
 
   module _ (s : List ℕ) (l : Layout) (es : List Entry) (sized : l.entries ≡ length es) (filled : l.size ≡ widths_of es) (w : WellTexted es)
       (most : length es ≤ 1024) (counted : rewritten_count s l ≡ length es + 3 * tally 2 es) where
-    abbrev scanned : Scanned
+    abbrev scanned : Option (Place × Bool)
     scanned = scan_of t.words longest l.size es (wait sort 0 0 ∷ []) 0 0 false
 
     -- the entries of a tree are passed over
-    judged_tree : T (well_texts es) → (a : A) → root.flat a ≡ es → judged s l scanned ≡ pick (not (small root es a)) (Refused 3) (Tape l)
+    judged_tree : T (well_texts es) → (a : A) → root.flat a ≡ es → judged s l scanned ≡ pick (not (small root es a)) (Err TooLarge) (Ok l)
     unfolding small
     judged_tree well a e =
         let p = r.passes a in
@@ -220,14 +219,14 @@ module _ {t : Table} {trees : Language t} {longest : ℕ} {A : Type 0} {root : R
         let depths = fits_depths (root.deep node_weight a) (root.deep call_weight a) && root.few a in
         let short = short_in t.words longest es in
         let texts : (short && leb (length es + 3 * tally 2 es) 1024) ≡ root.texts es = rw e at (r.short a (rw e most)) in
-        let z : scanned ≡ Ends (record { at = l.entries; text = l.size }) (not (short && depths)) =
+        let z : scanned ≡ Some (record { at = l.entries; text = l.size }, not (short && depths)) =
         ap (λ (x : List Entry). scan_of t.words longest l.size x (wait sort 0 0 ∷ []) 0 0 false) (sym e ∙ sym (append-nil (root.flat a)))
         ∙ q ∙ rw (zero-add, zero-add, k, n, over_is a, e) in
         rw (z, eq-eqb l.entries l.entries refl, eq-eqb l.size l.size refl, counted, ← texts)
-        (both_figures short (leb (length es + 3 * tally 2 es) 1024) depths (Refused 3) (Tape l))
+        (both_figures short (leb (length es + 3 * tally 2 es) 1024) depths (Err TooLarge) (Ok l))
 
     -- where they spell no tree, the scan does not end behind them
-    judged_no_tree : ((a : A) → root.flat a ≡ es → ⊥) → judged s l scanned ≡ Refused 2
+    judged_no_tree : ((a : A) → root.flat a ≡ es → ⊥) → judged s l scanned ≡ Err Malformed
     judged_no_tree not-one =
         judged_else s l scanned (λ p o h e₁ e₂.
         let f = found trees longest l.size es (wait sort 0 0 ∷ []) 0 0 false p o w h in
@@ -276,7 +275,7 @@ module _ {t : Table} {trees : Language t} {longest : ℕ} {A : Type 0} {root : R
       unfolding es read_texts read_tree read_limits
       scan_reads fit = go (eqb (widths_of es) (size_of s)) (eqb-true (widths_of es) (size_of s)) (eqb-false (widths_of es) (size_of s))
         where
-          scanned : Scanned
+          scanned : Option (Place × Bool)
           scanned = scan_of t.words longest (size_of s) es (wait sort 0 0 ∷ []) 0 0 false
 
           k : length es ≡ entries_of s
@@ -296,7 +295,7 @@ module _ {t : Table} {trees : Language t} {longest : ℕ} {A : Type 0} {root : R
               rw h (omega (arith, k, ors))
 
           limited : widths_of es ≡ size_of s → T (well_texts es) → (a : A) → root.flat a ≡ es → (b : Bool) → small root es a ≡ b
-              → Answers root s (pick (not b) (Refused 3) (Tape l)) (read_limits b a)
+              → Answers root s (pick (not b) (Err TooLarge) (Ok l)) (read_limits b a)
           limited e well a x false q = answers_3
           limited e well a x true q =
               let n : length (root.flat a) ≡ entries_of s = ap length x ∙ k in
@@ -353,7 +352,7 @@ module _ {t : Table} {trees : Language t} {longest : ℕ} {A : Type 0} {root : R
       m = size_of s
 
       exact : T (fits_sizes n m) → 8 ≤ length s → (b : Bool) → (T b → length (drop 8 s) ≡ 9 * n + m)
-          → Answers root s (after_open t.words longest s sort (pick b (Tape (tape_layout n m)) (Refused 2)))
+          → Answers root s (after_open t.words longest s sort (pick b (Ok (tape_layout n m)) (Err Malformed)))
           (read_tree root (elim b [
             | true ↦ read_texts (split (take n (drop 8 s)) (take (8 * n) (drop n (drop 8 s))) (drop (9 * n) (drop 8 s)))
             | false ↦ Reading.malformed
@@ -369,7 +368,7 @@ module _ {t : Table} {trees : Language t} {longest : ℕ} {A : Type 0} {root : R
           (λ u. let z = eqb→eq (length (drop 8 s)) (9 * n + m) u in eq→eqb (length s) (8 + 9 * n + m) (omega arith))
 
       fits : 8 ≤ length s → (b : Bool) → (T b → T (fits_sizes n m))
-          → Answers root s (after_open t.words longest s sort (pick b (pick (eqb (length s) (8 + 9 * n + m)) (Tape (tape_layout n m)) (Refused 2)) (Refused 3)))
+          → Answers root s (after_open t.words longest s sort (pick b (pick (eqb (length s) (8 + 9 * n + m)) (Ok (tape_layout n m)) (Err Malformed)) (Err TooLarge)))
           (read_tree root (elim b [ true ↦ read_sections n m (drop 8 s) | false ↦ Reading.too_large ]))
       fits h false fit = answers_3
       fits h true fit =
@@ -377,7 +376,7 @@ module _ {t : Table} {trees : Language t} {longest : ℕ} {A : Type 0} {root : R
 
       long : (b : Bool) → (T b → 8 ≤ length s)
           → Answers root s
-          (after_open t.words longest s sort (pick b (pick (fits_sizes n m) (pick (eqb (length s) (8 + 9 * n + m)) (Tape (tape_layout n m)) (Refused 2)) (Refused 3)) (Refused 2)))
+          (after_open t.words longest s sort (pick b (pick (fits_sizes n m) (pick (eqb (length s) (8 + 9 * n + m)) (Ok (tape_layout n m)) (Err Malformed)) (Err TooLarge)) (Err Malformed)))
           (read_tree root (elim b [ true ↦ read_sizes n m (drop 8 s) | false ↦ Reading.malformed ]))
       long false h = answers_2
       long true h = fits (h tt) (fits_sizes n m) (λ u. u)

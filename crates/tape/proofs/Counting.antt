@@ -5,6 +5,7 @@ use mathlib.Core.Path.{◌≡◌, refl, ap, sym, ◌∙◌}
 use mathlib.Core.List.{List, [], ◌∷◌}
 use mathlib.Core.Bool.{Bool, true, false}
 use native.Mathlib.Omega.{arith}
+use native.Mathlib.Nat.{add-zero}
 use native.Mathlib.Numerals.{add-one}
 use lib.Dec.{eqb}
 use lib.ListN.{length, drop, get_or, drop_of_length-le, length-take, length-map}
@@ -33,6 +34,12 @@ pub tally_sum : (code : ℕ) (codes : List ℕ) → tally code (coded codes) ≡
 unfolding tally
 tally_sum code [] = refl
 tally_sum code (c ∷ cs) = omega (arith, tally_sum code cs)
+
+-- all Ors of a layout, as its codes are lent
+pub ors_held : (s : List ℕ) (l : Layout) → ors_from s l 0 ≡ sum_of (weight_of 2) (part s l.codes (l.codes + l.entries - l.codes))
+ors_held s l =
+    let n : l.codes + l.entries - l.codes ≡ l.entries - 0 = omega arith in
+    rw (n, add-zero l.codes) (tally_sum 2 (part s l.codes (l.entries - 0)))
 
 -- Ors from a code on
 module _ (codes : List ℕ) (i : ℕ) where

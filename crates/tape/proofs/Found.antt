@@ -1,5 +1,6 @@
 -- Where a scan ends, trees stand: from entries back to trees, by any table that is well made and the trees of its sorts.
 -- Assumes nothing.
+use Rattle.std.proofs.Common.{Option, Some, None}
 use Prim.Native.Nat.{ℕ, ◌+◌, ◌-◌}
 use mathlib.Core.Path.{◌≡◌, refl, ap, sym, subst, ◌∙◌}
 use mathlib.Core.Bool.{Bool, true, false, ◌&&◌, ◌||◌}
@@ -19,8 +20,6 @@ use Rattle.grammar.proofs.Marks.{Table}
 use Rattle.tape.specs.Pick.{pick}
 use Rattle.tape.specs.Scan.{scan_of, text_passes}
 use Rattle.tape.specs.declared.layout.Place.{Place}
-use Rattle.tape.specs.declared.scan.Scanned.{Scanned}
-use Rattle.tape.specs.declared.scan.Scanned.TheVariants.{Ends, Malformed}
 use Rattle.tape.proofs.Passing.{TextsPass, allowed, sorts_below}
 use Rattle.tape.proofs.Places.{widths_of}
 
@@ -48,11 +47,15 @@ sorts_append : (n k : ℕ) (ss : List ℕ) (st : List Wait) → sorts_waited (wa
 sorts_append n k [] st = refl
 sorts_append n k (s ∷ ss) st = ap (λ (l : List ℕ). s ∷ l) (sorts_append n k ss st)
 
-never : {A : Type 0} {p : Place} {o : Bool} → Malformed ≡ Ends p o → A
+never : {A : Type 0} {p : Place} {o : Bool} → ◌≡◌ {A = Option (Place × Bool)} None (Some (p, o)) → A
 never h = let z : ◌≡◌ {A = ℕ} 0 1 = cc in absurd (omega arith)
 
-same_place : {p q : Place} {a b : Bool} → Ends p a ≡ Ends q b → q ≡ p
-same_place h = (cc)
+abbrev place_in : Place → Option (Place × Bool) → Place
+place_in other None = other
+place_in other (Some (p, o)) = p
+
+same_place : {p q : Place} {a b : Bool} → ◌≡◌ {A = Option (Place × Bool)} (Some (p, a)) (Some (q, b)) → q ≡ p
+same_place {p} h = sym (ap (place_in p) h)
 
 module _ {t : Table} (trees : Language t) where
   abbrev All : List ℕ → Type 0
@@ -89,7 +92,7 @@ module _ {t : Table} (trees : Language t) where
 
   module _ (longest size : ℕ) where
     pub found : (es : List Entry) (st : List Wait) (at text : ℕ) (over : Bool) (p : Place) (o : Bool) → WellTexted es
-        → scan_of t.words longest size es st at text over ≡ Ends p o → Found es (sorts_waited st) at p
+        → scan_of t.words longest size es st at text over ≡ Some (p, o) → Found es (sorts_waited st) at p
     found [] [] at text over p o w h =
         record { trees_are = tt; rest = []; split = refl; ends = ap (λ (q : Place). q.at) (same_place h) ∙ sym (add-zero at) }
     found [] (c ∷ st) at text over p o w h = never h
@@ -124,8 +127,8 @@ module _ {t : Table} (trees : Language t) where
               ends = omega (arith, f.ends, ap length same);
             }
 
-        go : (b : Bool) → lets_in ≡ b → {s : Scanned} → pick b s Malformed ≡ Ends p o
-            → (s ≡ Ends p o → Found es (sorts_waited (below longest c head ++ st)) (at + 1) p)
+        go : (b : Bool) → lets_in ≡ b → {s : Option (Place × Bool)} → pick b s None ≡ Some (p, o)
+            → (s ≡ Some (p, o) → Found es (sorts_waited (below longest c head ++ st)) (at + 1) p)
             → Found (e ∷ es) (c.sort ∷ sorts_waited st) at p
         go false a h next = never h
         go true a h next =
@@ -144,7 +147,7 @@ pub record TookAll (longest : ℕ) (es : List Entry) (text : ℕ) (p : Place) : 
 
 module _ (t : Table) (longest size : ℕ) where
   pub took_all : (es : List Entry) (st : List Wait) (at text : ℕ) (over : Bool) (p : Place) (o : Bool)
-      → scan_of t.words longest size es st at text over ≡ Ends p o → p.at ≡ at + length es → TookAll longest es text p
+      → scan_of t.words longest size es st at text over ≡ Some (p, o) → p.at ≡ at + length es → TookAll longest es text p
   took_all [] [] at text over p o h e =
       record { text_ends = ap (λ (q : Place). q.text) (same_place h) ∙ sym (add-zero text); texts_pass = all_nil }
   took_all [] (c ∷ st) at text over p o h e = never h
@@ -162,8 +165,8 @@ module _ (t : Table) (longest size : ℕ) where
       width : head.text ≡ text_width (is_text x.code) x.value
       width = ap (λ (b : Bool). text_width b x.value) (t.texts_are x.code)
 
-      go : (b : Bool) → lets_in ≡ b → {s : Scanned} → pick b s Malformed ≡ Ends p o
-          → (s ≡ Ends p o → TookAll longest es (text + head.text) p) → TookAll longest (x ∷ es) text p
+      go : (b : Bool) → lets_in ≡ b → {s : Option (Place × Bool)} → pick b s None ≡ Some (p, o)
+          → (s ≡ Some (p, o) → TookAll longest es (text + head.text) p) → TookAll longest (x ∷ es) text p
       go false a h next = never h
       go true a h next =
           let rest = next h in

@@ -4,7 +4,7 @@ use Prim.Native.Nat.{ℕ, ◌+◌, ◌*◌}
 use mathlib.Core.List.{List}
 use mathlib.Core.Bool.{◌&&◌}
 use lib.ListN.{length}
-use lib.Dec.{T, leb, leb→le, le→leb, ltb→lt, lt→ltb}
+use lib.Dec.{T, leb, leb→le, le→leb, lt→ltb}
 use Rattle.tape.specs.Layouts.{Held, holds}
 use Rattle.tape.specs.Scan.{starts}
 use Rattle.tape.specs.Turn.{Starts}
@@ -30,17 +30,6 @@ module _ (s : List ℕ) (l : Layout) where
       (and_both (leb (l.codes + l.entries) (length s)) _ (le→leb _ _ h.codes_held) (le→leb _ _ h.values_held))
 
   -- a place in it, and a sort
-  pub started : (from : Place) (sort : ℕ) → T (starts s l from sort) → Starts s l from sort
-  started from sort t =
-      let p = and_right (holds s l) _ t in
-      let q = and_right (leb from.at l.entries) _ p in
-      record {
-        held = held (and_left (holds s l) _ t);
-        at_most = leb→le from.at l.entries (and_left (leb from.at l.entries) _ p);
-        text_most = leb→le from.text l.size (and_left (leb from.text l.size) _ q);
-        is_sort = ltb→lt sort 32 (and_right (leb from.text l.size) _ q);
-      }
-
   pub starting : (from : Place) (sort : ℕ) → Starts s l from sort → T (starts s l from sort)
   starting from sort h =
       and_both (holds s l) _ (holding h.held)

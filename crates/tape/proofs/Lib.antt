@@ -1,15 +1,14 @@
 pub mod Located
 pub mod Holding
 pub mod Counting
-mod Parts
-mod Moves
-mod Turns
+pub mod Moves
+pub mod Turns
 pub mod Passing
 pub mod Trees
 mod Found
-mod SmallTrees
+pub mod SmallTrees
 mod Shapes
-mod Skipping
+pub mod Skipping
 mod Typed
 mod Places
 pub mod Acceptance

@@ -1,5 +1,6 @@
 -- Entries at a place of a tape or of a work area, and where the entries behind them stand.
 -- Assumes nothing.
+use Rattle.std.proofs.Common.{Some}
 use Prim.Native.Nat.{ℕ, ◌+◌, ◌*◌, ◌<◌}
 use native.Mathlib.Omega.{arith}
 use mathlib.Core.Path.{◌≡◌, refl, sym, ap, ◌∙◌}
@@ -22,7 +23,6 @@ use Rattle.tape.specs.Layouts.{onward, size_between}
 use Rattle.tape.specs.Scan.{skip_at}
 use Rattle.tape.specs.declared.layout.Layout.{Layout}
 use Rattle.tape.specs.declared.layout.Place.{Place}
-use Rattle.tape.specs.declared.scan.Skipped.TheVariants.{At}
 use Rattle.tape.proofs.Acceptance.{RootNamed}
 use Rattle.tape.proofs.Passing.{Passes}
 use Rattle.tape.proofs.Roots.{Accepted}
@@ -122,8 +122,8 @@ module _ {s : List ℕ} {l : Layout} {p : Place} {es : List Entry} (i : Inside s
       }
 
   -- to skip a tree is to come to the place behind it
-  pub inside_skip : {sort : ℕ} {d : (ℕ → ℕ) → ℕ} {x : Bool} → Passes (sort ∷ []) es d x → sort < 32 → skip_at s l p sort ≡ At (past es p)
-  inside_skip b h = count_run b h i.run ∙ ap At (sym (past_place es p))
+  pub inside_skip : {sort : ℕ} {d : (ℕ → ℕ) → ℕ} {x : Bool} → Passes (sort ∷ []) es d x → sort < 32 → skip_at s l p sort ≡ Some (past es p)
+  inside_skip b h = count_run b h i.run ∙ ap Some (sym (past_place es p))
 
   pub inside_size : size_between s l p.at (past es p).at ≡ size es
   inside_size = ap (size_between s l p.at) (past_at es p) ∙ size_run i.run

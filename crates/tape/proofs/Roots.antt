@@ -1,5 +1,7 @@
 -- The four roots of document 01 and a lone term, and what an accepted slice holds.
 -- Assumes nothing.
+use Rattle.tape.specs.declared.header.Fault.{Fault}
+use Rattle.std.proofs.Common.{Result, Ok}
 use Prim.Native.Nat.{ℕ, ◌+◌, ◌*◌, ◌≤◌}
 use mathlib.Core.Path.{◌≡◌, refl, ap, sym, ◌∙◌, subst}
 use mathlib.Core.Bool.{Bool, true, ◌&&◌, and_assoc}
@@ -27,8 +29,6 @@ use Rattle.grammar.specs.Waits.{is_limited}
 use Rattle.grammar.proofs.Marks.{longest_marks, longest_64}
 use Rattle.tape.specs.Accept.{accept_named}
 use Rattle.tape.specs.Layouts.{tape_layout}
-use Rattle.tape.specs.declared.header.Opened.{Opened}
-use Rattle.tape.specs.declared.header.Opened.TheVariants.{Tape}
 use Rattle.tape.specs.declared.layout.Layout.{Layout}
 use Rattle.tape.proofs.Acceptance.{RootOf, RootNamed, Holds, Answers, answers_2, answers_3, answers_tape, answers}
 use Rattle.tape.proofs.Passing.{short_in}
@@ -224,18 +224,18 @@ module _ {A : Type 0} {root : Root A} {longest sort : ℕ} (r : RootNamed longes
         few = and_right depths _ rest;
       }
 
-  pub accepted_root : (l : Layout) → accept_named longest s sort ≡ Tape l → (a : A) × Accepted root s l a
+  pub accepted_root : (l : Layout) → accept_named longest s sort ≡ Ok l → (a : A) × Accepted root s l a
   unfolding weighted
   accepted_root l e = go (answers r s) e refl
     where
-      go : {x : Opened} {y : Reading A} → Answers (weighted root) s x y → x ≡ Tape l → accept (weighted root) s ≡ y → (a : A) × Accepted root s l a
+      go : {x : Result Layout Fault} {y : Reading A} → Answers (weighted root) s x y → x ≡ Ok l → accept (weighted root) s ≡ y → (a : A) × Accepted root s l a
       go answers_2 e q = let z : ◌≡◌ {A = ℕ} 0 1 = cc in absurd (omega arith)
       go answers_3 e q = let z : ◌≡◌ {A = ℕ} 0 1 = cc in absurd (omega arith)
       go (answers_tape {a = a} {l = k} h p) e q =
           let same : tape_layout (length (root.flat a)) (length (text_of (root.flat a))) ≡ l = sym p ∙ tape_eq e in
           (a, subst (λ (m : Layout). Accepted root s m a) same (held_tape a q h))
         where
-          tape_eq : {k l : Layout} → Tape k ≡ Tape l → k ≡ l
+          tape_eq : {k l : Layout} → ◌≡◌ {A = Result Layout Fault} (Ok k) (Ok l) → k ≡ l
           tape_eq h = (cc)
 
 -- ------------------------------------------------------------------ for those who build on it

@@ -1,6 +1,7 @@
 -- Runs of entries that stand at a place of a layout: what is read there, where they end, their names, their size, and whether they
 -- pass a largest figure.
 -- Assumes nothing.
+use Rattle.std.proofs.Common.{Option, Some, None}
 use Prim.Native.Nat.{ℕ, ◌+◌, ◌-◌, ◌≤◌, ◌<◌}
 use mathlib.Core.Path.{◌≡◌, refl, ap, subst, ◌∙◌}
 use mathlib.Core.Bool.{Bool, true, false, not, ◌&&◌}
@@ -27,9 +28,6 @@ use Rattle.tape.specs.Scan.{scan_of, scan_from, starts, scan_at, skip_at, over_o
 use Rattle.tape.specs.Skip.{count_from}
 use Rattle.tape.specs.declared.layout.Layout.{Layout}
 use Rattle.tape.specs.declared.layout.Place.{Place}
-use Rattle.tape.specs.declared.scan.Scanned.{Scanned}
-use Rattle.tape.specs.declared.scan.Scanned.TheVariants.{Ends, Malformed}
-use Rattle.tape.specs.declared.scan.Skipped.TheVariants.{At, Nowhere}
 use Rattle.tape.proofs.Holding.{holding, starting}
 use Rattle.tape.proofs.Passing.{PassesBy, any_pass, reported}
 use Rattle.tape.proofs.Places.{entries_stand}
@@ -88,13 +86,13 @@ module _ {s : List ℕ} {l : Layout} {p : Place} where
 
 -- ------------------------------------------------------------------ the scan of a run
 
-abbrev kind : Scanned → ℕ
-kind Malformed = 0
-kind (Ends p over) = 1
+abbrev kind : Option (Place × Bool) → ℕ
+kind None = 0
+kind (Some (p, over)) = 1
 
 module _ {t : Table} {s : List ℕ} {l : Layout} {p : Place} {es : List Entry} {sort : ℕ} {d : (ℕ → ℕ) → ℕ} {x : Bool} where
   scan_run : (b : PassesBy t (sort ∷ []) es d x) → sort < 32 → Run s l p es
-      → scan_at t.words s l p sort 0 ≡ Ends (place (p.at + length es) (p.text + length (text_of es))) (b.over 0 0 0)
+      → scan_at t.words s l p sort 0 ≡ Some (place (p.at + length es) (p.text + length (text_of es)), b.over 0 0 0)
   scan_run b h r =
       let starts_there : starts s l p sort ≡ true =
       is_true (starting s l p sort (record {
@@ -109,14 +107,14 @@ module _ {t : Table} {s : List ℕ} {l : Layout} {p : Place} {es : List Entry} {
       rw (starts_there, n, entries_stand t s l p.at p.text b.texted r.small_values r.stands k)
       (b.run 0 l.size 0 0 [] rest p.at p.text false (omega arith) (omega arith) r.text_left (any_pass es) ∙ stops rest)
     where
-      stops : (rest : List Entry) {at text : ℕ} {o : Bool} → scan_of t.words 0 l.size rest [] at text o ≡ Ends (place at text) o
+      stops : (rest : List Entry) {at text : ℕ} {o : Bool} → scan_of t.words 0 l.size rest [] at text o ≡ Some (place at text, o)
       stops [] = refl
       stops (e ∷ more) = refl
 
 -- the same by counting, for a tree of document 01
 pub count_run : {s : List ℕ} {l : Layout} {p : Place} {es : List Entry} {sort : ℕ} {d : (ℕ → ℕ) → ℕ} {x : Bool}
     → PassesBy temporal (sort ∷ []) es d x → sort < 32 → Run s l p es
-    → skip_at s l p sort ≡ At (place (p.at + length es) (p.text + length (text_of es)))
+    → skip_at s l p sort ≡ Some (place (p.at + length es) (p.text + length (text_of es)))
 count_run {s} {l} {p} {es} {sort} b h r =
     let n = l.entries - p.at in
     let ends = counted_ends s l n (wait sort 0 0 ∷ []) p.at p.text false (start_counts sort h) in
@@ -125,13 +123,13 @@ count_run {s} {l} {p} {es} {sort} b h r =
     end : Place
     end = place (p.at + length es) (p.text + length (text_of es))
 
-    go : (y : Bool) {o : Bool} → pick y (scan_from temporal_words s l p sort 0) Malformed ≡ Ends end o
+    go : (y : Bool) {o : Bool} → pick y (scan_from temporal_words s l p sort 0) None ≡ Some (end, o)
         → EndsAt (scan_from temporal_words s l p sort 0) (count_from count_words s l (l.entries - p.at) (due_of sort) (has_pairs sort) p.at p.text)
-        → pick y (count_from count_words s l (l.entries - p.at) (due_of sort) (has_pairs sort) p.at p.text) Nowhere ≡ At end
-    go true e c = subst (λ (z : Scanned). EndsAt z (count_from count_words s l (l.entries - p.at) (due_of sort) (has_pairs sort) p.at p.text)) e c
+        → pick y (count_from count_words s l (l.entries - p.at) (due_of sort) (has_pairs sort) p.at p.text) None ≡ Some end
+    go true e c = subst (λ (z : Option (Place × Bool)). EndsAt z (count_from count_words s l (l.entries - p.at) (due_of sort) (has_pairs sort) p.at p.text)) e c
     go false e c = absurd (ended e)
       where
-        ended : {o : Bool} → Malformed ≡ Ends end o → ⊥
+        ended : {o : Bool} → ◌≡◌ {A = Option (Place × Bool)} None (Some (end, o)) → ⊥
         ended e = let z : ◌≡◌ {A = ℕ} 0 1 = ap kind e in omega arith
 
 -- a tree at the start of a layout is too deep if it passes the limits on depths

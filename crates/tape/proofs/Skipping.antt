@@ -1,7 +1,9 @@
 -- A count of subtrees ends where the scan does, and what one turn of it does.
 -- Assumes nothing.
-use Prim.Native.Nat.{ℕ, zero, suc, ◌+◌, ◌-◌, ◌≤◌, ◌<◌}
-use mathlib.Core.Path.{◌≡◌, refl, ap, sym, subst}
+use Rattle.tape.specs.declared.layout.Place.{Place}
+use Rattle.std.proofs.Common.{Option, Some, None}
+use Prim.Native.Nat.{ℕ, zero, suc, ◌+◌, ◌-◌, ◌<◌}
+use mathlib.Core.Path.{◌≡◌, refl, ap, subst}
 use mathlib.Core.Bool.{Bool, true, false, ◌&&◌, ◌||◌}
 use mathlib.Core.List.{List, [], ◌∷◌, ◌++◌}
 use native.Mathlib.Omega.{arith}
@@ -13,19 +15,13 @@ use Rattle.format.proofs.Tests.{and_left, and_right, from_true, is_true}
 use Rattle.grammar.specs.Counts.{count_words, step_in}
 use Rattle.grammar.specs.Words.{temporal_words, in_sort, values_of, follows_of}
 use Rattle.grammar.specs.Waits.{Wait, waits, head_of, valued, counted, accepts, exceeds, below}
-use Rattle.grammar.specs.declared.count.Counted.{Counted}
-use Rattle.grammar.specs.declared.count.Counted.TheVariants.{Refused, On}
 use Rattle.grammar.specs.declared.entry.Head.{Head}
 use Rattle.grammar.proofs.Counted.{Counts, step_counts, none_waits, some_waits, width_counts}
 use Rattle.tape.specs.Layouts.{code_at, value_at, width_by, entries_at}
 use Rattle.tape.specs.Pick.{pick}
 use Rattle.tape.specs.Scan.{scan_of}
-use Rattle.tape.specs.Skip.{count_from}
+use Rattle.tape.specs.Skip.{on_counted, count_from}
 use Rattle.tape.specs.declared.layout.Layout.{Layout}
-use Rattle.tape.specs.declared.scan.Scanned.{Scanned}
-use Rattle.tape.specs.declared.scan.Scanned.TheVariants.{Ends, Malformed}
-use Rattle.tape.specs.declared.scan.Skipped.{Skipped}
-use Rattle.tape.specs.declared.scan.Skipped.TheVariants.{At, Nowhere}
 
 -- the sorts that wait
 abbrev pub sorts_waiting : List Wait → List ℕ
@@ -41,9 +37,9 @@ entries_length s l zero at txt = refl
 entries_length s l (suc n) at txt = ap suc (entries_length s l n (at + 1) (txt + width_by temporal_words s l at))
 
 -- what the place behind is, if there is one
-abbrev pub EndsAt : Scanned → Skipped → Type 0
-EndsAt (Ends p over) x = x ≡ At p
-EndsAt Malformed x = Unit {0}
+abbrev pub EndsAt : Option (Place × Bool) → Option Place → Type 0
+EndsAt (Some (p, over)) x = x ≡ Some p
+EndsAt None x = Unit {0}
 
 module _ (s : List ℕ) (l : Layout) where
   pub counted_ends : (left : ℕ) {pairs : Bool} {due : ℕ} (st : List Wait) (at text : ℕ) (over : Bool) → Counts pairs due (sorts_waiting st)
@@ -70,13 +66,13 @@ module _ (s : List ℕ) (l : Layout) where
       lets_in : Bool
       lets_in = accepts (length es) (l.size - text) first && true
 
-      scanned : Scanned
+      scanned : Option (Place × Bool)
       scanned = scan_of temporal_words 0 l.size es (below 0 w first ++ st) (at + 1) (text + first.text) (over || exceeds 0 w first)
 
       go : (b : Bool) → lets_in ≡ b
           → ((p : Bool) (d : ℕ) → Counts p d (sorts_waiting (below 0 w first ++ st))
           → EndsAt scanned (count_from count_words s l left d p (at + 1) (text + first.text)))
-          → EndsAt (pick b scanned Malformed) (count_from count_words s l (suc left) due pairs at text)
+          → EndsAt (pick b scanned None) (count_from count_words s l (suc left) due pairs at text)
       go false e next = tt
       go true e next =
           let a = and_left (accepts (length es) (l.size - text) first) _ (from_true e) in
@@ -96,30 +92,15 @@ module _ (s : List ℕ) (l : Layout) where
 -- ------------------------------------------------------------------ a turn of the count
 
 module _ (g s : List ℕ) (l : Layout) (due : ℕ) (pairs : Bool) (at text : ℕ) where
-  pub count_done : (left : ℕ) → due ≡ 0 → count_from g s l left due pairs at text ≡ At (record { at = at; text = text })
+  pub count_done : (left : ℕ) → due ≡ 0 → count_from g s l left due pairs at text ≡ Some (record { at = at; text = text })
   count_done zero e = rw (eq-eqb due 0 e) refl
   count_done (suc left) e = rw (eq-eqb due 0 e) refl
 
-  module _ (some : due ≡ 0 → ⊥) where
-    pub count_none : l.entries ≤ at → count_from g s l (l.entries - at) due pairs at text ≡ Nowhere
-    count_none h =
-        let e : l.entries - at ≡ 0 = omega arith in
-        rw (e, ne_eqb due 0 some) refl
-
-    module _ {c v : ℕ} {x : Counted} (h : at < l.entries) (p : c ≡ code_at s l at) (q : v ≡ value_at s l at)
-        (y : x ≡ step_in g (l.entries - at - 1) (l.size - text) pairs c v) where
-      left_is : l.entries - at ≡ suc (l.entries - (at + 1))
-      left_is = omega arith
-
-      one_less : l.entries - at - 1 ≡ l.entries - (at + 1)
-      one_less = omega arith
-
-      stepped : step_in g (l.entries - (at + 1)) (l.size - text) pairs (code_at s l at) (value_at s l at) ≡ x
-      stepped = rw (← p, ← q, ← one_less) (sym y)
-
-      pub count_refused : x ≡ Refused → count_from g s l (l.entries - at) due pairs at text ≡ Nowhere
-      count_refused z = rw (left_is, ne_eqb due 0 some, stepped, z) refl
-
-      pub count_on : {more width : ℕ} {next : Bool} → x ≡ On more width next → count_from g s l (l.entries - at) due pairs at text
-          ≡ count_from g s l (l.entries - (at + 1)) (due - 1 + more) next (at + 1) (text + width)
-      count_on z = rw (left_is, ne_eqb due 0 some, stepped, z) refl
+  -- one entry less
+  pub count_step : (due ≡ 0 → ⊥) → at < l.entries → count_from g s l (l.entries - at) due pairs at text
+      ≡ on_counted (step_in g (l.entries - at - 1) (l.size - text) pairs (code_at s l at) (value_at s l at))
+      (λ more width next. count_from g s l (l.entries - (at + 1)) (due - 1 + more) next (at + 1) (text + width))
+  count_step some h =
+      let one_less : l.entries - at - 1 ≡ l.entries - (at + 1) = omega arith in
+      let left_is : l.entries - at ≡ suc (l.entries - (at + 1)) = omega arith in
+      rw (one_less, left_is, ne_eqb due 0 some)

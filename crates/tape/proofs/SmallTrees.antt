@@ -1,13 +1,14 @@
 -- A small tree is not too deep: whatever stands on a path is weighed.
 -- Assumes nothing.
-use Prim.Native.Nat.{ℕ, zero, suc, ◌+◌, ◌-◌, ◌*◌, ◌≤◌, ◌<◌, ◌%◌}
+use Rattle.std.proofs.Common.{None}
+use Prim.Native.Nat.{ℕ, zero, suc, ◌+◌, ◌-◌, ◌*◌, ◌≤◌, ◌%◌}
 use mathlib.Core.Path.{◌≡◌, refl, ap, ◌∙◌}
 use mathlib.Core.Bool.{Bool, true, false, ◌&&◌, ◌||◌}
 use mathlib.Core.List.{List, [], ◌∷◌, ◌++◌}
 use native.Mathlib.Nat.{add-zero}
 use native.Mathlib.Omega.{arith}
-use borrow.Author.Tests.{le-ltb, le-leb, lt-leb}
-use lib.Dec.{T, leb, leb→le}
+use borrow.Author.Tests.{le-ltb}
+use lib.Dec.{T, leb, eqb, leb→le}
 use lib.ListN.{length, drop, get_or, length-take}
 use Rattle.format.specs.Entry.{Entry}
 use Rattle.format.specs.Limits.{is_call, weigh}
@@ -22,12 +23,11 @@ use Rattle.grammar.specs.declared.entry.Head.{Head}
 use Rattle.grammar.proofs.Depths.{room_of, is_enough, bounded}
 use Rattle.grammar.proofs.Marks.{call_marks}
 use Rattle.grammar.proofs.Table.{at as at-number}
-use Rattle.tape.specs.Flat.{sum_of, sum_in, weight_of, branch_weight, is_small, is_flat}
+use Rattle.tape.specs.Flat.{sum_of, sum_in, weight_of, is_branch, branch_weight, is_small, is_flat}
 use Rattle.tape.specs.Layouts.{Held, width_by, entries_at, holds}
 use Rattle.tape.specs.Pick.{pick}
 use Rattle.tape.specs.Scan.{scan_of, scan_from, starts, text_passes, over_of, too_deep}
 use Rattle.tape.specs.declared.layout.Layout.{Layout}
-use Rattle.tape.specs.declared.scan.Scanned.TheVariants.{Malformed}
 use Rattle.tape.proofs.Holding.{held}
 
 -- ------------------------------------------------------------------ sums over codes
@@ -52,6 +52,15 @@ weigh_most false = omega arith
 pub sum_most : (p : ℕ → Bool) (cs : List ℕ) → sum_of (λ (c : ℕ). weigh (p c)) cs ≤ length cs
 sum_most p [] = omega arith
 sum_most p (c ∷ cs) = omega (arith, weigh_most (p c), sum_most p cs)
+
+few_such : (p : ℕ → Bool) (s : List ℕ) (k n : ℕ) → n ≤ 1024 → sum_of (λ (c : ℕ). weigh (p c)) (part s k n) ≤ 1024
+few_such p s k n h = omega (arith, sum_most p (part s k n), length-take n (drop k s))
+
+pub few_codes : (code : ℕ) (s : List ℕ) (k n : ℕ) → n ≤ 1024 → sum_of (weight_of code) (part s k n) ≤ 1024
+few_codes code s k n h = few_such (λ (c : ℕ). eqb c code) s k n h
+
+pub few_branches : (s : List ℕ) (k n : ℕ) → n ≤ 1024 → sum_of branch_weight (part s k n) ≤ 1024
+few_branches s k n h = few_such is_branch s k n h
 
 abbrev calls_in : ℕ → ℕ
 calls_in c = calls_of (row_at temporal_words c)
@@ -132,7 +141,7 @@ module _ (weight : ℕ → ℕ) (rooms : List ℕ) (all : T (is_enough weight ro
       go : (b : Bool) → lets_in ≡ b
           → (All (Low (nodes_in es) (calls_among es)) (below 0 w first)
           → over_of (scan_of temporal_words 0 size es (below 0 w first ++ st) (at + 1) (text + first.text) false) ≡ false)
-          → over_of (pick b (scan_of temporal_words 0 size es (below 0 w first ++ st) (at + 1) (text + first.text) (exceeds 0 w first)) Malformed)
+          → over_of (pick b (scan_of temporal_words 0 size es (below 0 w first ++ st) (at + 1) (text + first.text) (exceeds 0 w first)) None)
           ≡ false
       go false a next = refl
       go true a next =
@@ -211,19 +220,6 @@ flat_shallow s l sort flat = go (starts s l (record { at = 0; text = 0 }) sort)
             flat_scan branches_weigh branch_rooms branches l.size es (wait sort 0 0 ∷ []) 0 0
             (all_cons {a = wait sort 0 0} (record { calls_low = omega (arith, few_calls); nesting_low = omega (arith, rooms_most sort, n, k) }) all_nil)
 
-    go : (b : Bool) → over_of (pick b (scan_from temporal_words s l (record { at = 0; text = 0 }) sort 0) Malformed) ≡ false
+    go : (b : Bool) → over_of (pick b (scan_from temporal_words s l (record { at = 0; text = 0 }) sort 0) None) ≡ false
     go false = refl
     go true = scanned
-
--- ------------------------------------------------------------------ what decides that a tree is small
-
-module _ (s : List ℕ) (l : Layout) where
-  pub many_calls : 4 < sum_in (weight_of 54) s l → false ≡ is_small s l
-  many_calls h = rw (lt-leb (sum_in (weight_of 54) s l) 4 h)
-
-  module _ (h : sum_in (weight_of 54) s l ≤ 4) where
-    pub few_entries : l.entries ≤ 64 → true ≡ is_small s l
-    few_entries n = rw (le-leb (sum_in (weight_of 54) s l) 4 h, le-leb l.entries 64 n)
-
-    pub branches_counted : {n k : ℕ} → 64 < l.entries → n ≡ sum_in branch_weight s l → k ≡ sum_in (weight_of 30) s l → leb (n + 2 * k) 61 ≡ is_small s l
-    branches_counted g q r = rw (le-leb (sum_in (weight_of 54) s l) 4 h, lt-leb l.entries 64 g, q, r)

@@ -1,14 +1,11 @@
 -- One turn of a scan: what it asks, and what it gives.
 -- Assumes nothing.
-use Rattle.std.specs.Prelude.{ℕ, ◌+◌, ◌-◌, ◌≤◌, ◌<◌, ◌≡◌, List, Bool, ◌||◌, length}
+use Rattle.std.specs.Prelude.{ℕ, ◌+◌, ◌-◌, ◌≤◌, ◌<◌, ◌≡◌, List, Bool, ◌||◌, length, Option, Some, None}
 use Rattle.grammar.specs.Stack.{stack_of}
 use Rattle.tape.specs.Layouts.{Held, entries_at}
 use Rattle.tape.specs.Scan.{scan_of}
 use Rattle.tape.specs.declared.layout.Layout.{Layout}
 use Rattle.tape.specs.declared.layout.Place.{Place}
-use Rattle.tape.specs.declared.scan.Scanned.TheVariants.{Malformed}
-use Rattle.tape.specs.declared.scan.Turn.{Turn}
-use Rattle.tape.specs.declared.scan.Turn.TheVariants.{Refused, Passed}
 
 -- the slice holds the layout, the place is in it, and a table has room for the sort
 pub record Starts (s : List ℕ) (l : Layout) (from : Place) (sort : ℕ) : Type 0 where
@@ -33,7 +30,7 @@ pub record TurnedOn (g : List ℕ) (longest : ℕ) (s : List ℕ) (l : Layout) (
   pub goes_on : (over : Bool) → scan_of g longest l.size (entries_at g s l at text (l.entries - at)) (stack_of stack top) at text over
       ≡ scan_of g longest l.size (entries_at g s l (at + 1) behind (l.entries - (at + 1))) (stack_of after next) (at + 1) behind (over || more)
 
-abbrev pub Turned : List ℕ → ℕ → List ℕ → Layout → List ℕ → ℕ → ℕ → ℕ → Turn → List ℕ → Type 0
-Turned g longest s l stack top at text Refused after =
-    (over : Bool) → scan_of g longest l.size (entries_at g s l at text (l.entries - at)) (stack_of stack top) at text over ≡ Malformed
-Turned g longest s l stack top at text (Passed next behind more) after = TurnedOn g longest s l stack top at text next behind more after
+abbrev pub Turned : List ℕ → ℕ → List ℕ → Layout → List ℕ → ℕ → ℕ → ℕ → Option (ℕ × ℕ × Bool) → List ℕ → Type 0
+Turned g longest s l stack top at text None after =
+    (over : Bool) → scan_of g longest l.size (entries_at g s l at text (l.entries - at)) (stack_of stack top) at text over ≡ None
+Turned g longest s l stack top at text (Some (next, behind, more)) after = TurnedOn g longest s l stack top at text next behind more after

@@ -4,11 +4,18 @@ ghost use Rattle.tape.specs.Layouts.{Held};
 ghost use Rattle.tape.specs.Skip.{count_from};
 
 use crate::layout::{Layout, Place, code_at, value_at};
-use crate::scan::Skipped;
-use grammar::count::{Counted, step};
+use grammar::count::step;
 
 // The place behind `due` subtrees from a place on, by a table of counts; `pairs` is whether the items of the next list are two subtrees each.
-pub fn end_of(counts: &[u8], s: &[u8], l: Layout, from: Place, due: u64, pairs: bool) -> Skipped
+#[tactic(auto, using(crate::proofs::Skipping::count_done, crate::proofs::Skipping::count_step))]
+pub fn end_of(
+    counts: &[u8],
+    s: &[u8],
+    l: Layout,
+    from: Place,
+    due: u64,
+    pairs: bool,
+) -> Option<Place>
     requires { Held s.now l × (from.at ≤ l.entries) × (from.text ≤ l.size) × (due ≤ 2) }
     ensures { result ≡ count_from counts.now s.now l (l.entries - from.at) due «pairs» from.at from.text }
 {
@@ -20,24 +27,15 @@ pub fn end_of(counts: &[u8], s: &[u8], l: Layout, from: Place, due: u64, pairs: 
     let mut paired = pairs;
     while 0 < left {
         if at == entries {
-            return Skipped::Nowhere;
+            return None;
         }
         let code = code_at(s, l, at);
         let value = value_at(s, l, at);
-        let Counted::On(more, width, next) = step(
-            counts,
-            entries - at - 1,
-            size - text,
-            paired,
-            code,
-            value,
-        ) else {
-            return Skipped::Nowhere;
-        };
+        let (more, width, next) = step(counts, entries - at - 1, size - text, paired, code, value)?;
         left = left - 1 + more;
         paired = next;
         text += width;
         at += 1;
     }
-    Skipped::At(Place { at, text })
+    Some(Place { at, text })
 }

@@ -5,7 +5,7 @@ ghost use Rattle.tape.specs.Layouts.{code_at, tape_layout, area_layout, value_at
 use buffer::held_value;
 
 // Where codes, values and text start in a slice, and how many entries and text bytes there are.
-#[derive(Clone, Copy)]
+#[derive(Clone, Copy, Debug, PartialEq, Eq)]
 pub struct Layout {
     pub codes: usize,
     pub values: usize,
@@ -15,7 +15,7 @@ pub struct Layout {
 }
 
 // An entry, and the offset of its text.
-#[derive(Clone, Copy)]
+#[derive(Clone, Copy, Debug, PartialEq, Eq)]
 pub struct Place {
     pub at: usize,
     pub text: usize,
@@ -62,38 +62,25 @@ pub fn of_area(base: usize, entries: usize, size: usize) -> Layout
 pub fn holds(s: &[u8], l: Layout) -> bool
     ensures { result ≡ holds s.now l }
 {
-    let entries = l.entries;
-    let codes = l.codes;
-    let values = l.values;
-    if 1024 < entries {
-        return false;
-    }
-    if s.len() < codes {
-        return false;
-    }
-    if s.len() < values {
-        return false;
-    }
-    if s.len() - codes < entries {
-        return false;
-    }
-    8 * entries <= s.len() - values
+    l.entries <= 1024
+        && l.codes <= s.len()
+        && l.values <= s.len()
+        && l.entries <= s.len() - l.codes
+        && 8 * l.entries <= s.len() - l.values
 }
 
 pub fn code_at(s: &[u8], l: Layout, at: usize) -> u8
     requires { l.codes + at < length s.now }
     ensures { result ≡ code_at s.now l at }
 {
-    let start = l.codes;
-    s[start + at]
+    s[l.codes + at]
 }
 
 pub fn value_at(s: &[u8], l: Layout, at: usize) -> u64
     requires { l.values + 8 * at + 8 ≤ length s.now }
     ensures { result ≡ value_at s.now l at }
 {
-    let start = l.values;
-    held_value(s, start + 8 * at)
+    held_value(s, l.values + 8 * at)
 }
 
 // The text offset behind `width` bytes, as far as there is text.
@@ -101,9 +88,5 @@ pub fn text_behind(size: usize, text: usize, width: u64) -> usize
     requires { text ≤ size }
     ensures { (result ≡ text_behind size text width) × (result ≤ size) }
 {
-    if width <= (size - text) as u64 {
-        text + width as usize
-    } else {
-        size
-    }
+    text + width.min((size - text) as u64) as usize
 }

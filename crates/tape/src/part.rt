@@ -7,22 +7,14 @@ ghost use Rattle.tape.specs.Pick.{pick};
 pub fn behind(start: usize, count: usize) -> usize
     ensures { result ≡ min (start + count) 18446744073709551615 }
 {
-    if 0xFFFF_FFFF_FFFF_FFFF - start < count {
-        0xFFFF_FFFF_FFFF_FFFF
-    } else {
-        start + count
-    }
+    start.saturating_add(count)
 }
 
 // The same `count` values of 8 bytes behind it.
 pub fn values_behind(start: usize, count: usize) -> usize
     ensures { result ≡ min (start + 8 * count) 18446744073709551615 }
 {
-    if (0xFFFF_FFFF_FFFF_FFFF - start) / 8 < count {
-        0xFFFF_FFFF_FFFF_FFFF
-    } else {
-        start + 8 * count
-    }
+    start.saturating_add(count.saturating_mul(8))
 }
 
 // The `len` bytes from `start` on of one of two tapes, of the call's or else of the definition's, as far as it reaches.
@@ -46,11 +38,7 @@ pub fn part<'a>(
 pub fn part_of(s: &[u8], start: usize, len: usize) -> &[u8]
     ensures { result.now ≡ part s.now start len }
 {
-    if s.len() <= start {
-        return &s[..0];
-    }
-    if s.len() - start <= len {
-        return &s[start..];
-    }
+    let start = start.min(s.len());
+    let len = len.min(s.len() - start);
     &s[start..start + len]
 }

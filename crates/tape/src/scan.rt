@@ -11,24 +11,10 @@ use crate::flat::is_flat;
 use crate::layout::{Layout, Place, code_at, holds, value_at};
 use crate::part::behind;
 use crate::utf8::well_formed;
-use grammar::codes::{both, either, follows_in, table, word_at};
+use grammar::codes::{follows_in, table, word_at};
 use grammar::count::{counts, due_of, has_pairs};
 use grammar::entry::{Head, accepts, advance, exceeds, width_of};
 use grammar::stack::{Cell, put};
-
-// Where the entries of a sort end, and whether they pass a largest figure; or they are none.
-#[derive(Clone, Copy)]
-pub enum Scanned {
-    Ends(Place, bool),
-    Malformed,
-}
-
-// The place behind a subtree, or there is none of the sort.
-#[derive(Clone, Copy)]
-pub enum Skipped {
-    At(Place),
-    Nowhere,
-}
 
 // The entry at a place, where one of the sort `wanted` is due.
 fn head_at(grammar: &[u64], s: &[u8], l: Layout, wanted: u64, at: usize) -> Head
@@ -50,28 +36,16 @@ fn head_at(grammar: &[u64], s: &[u8], l: Layout, wanted: u64, at: usize) -> Head
     }
 }
 
-// What the entry at a place does to a scan: it may not stand there, or the stack has a new top, the text goes on behind the entry's own,
-// and it passes a largest figure or not.
-#[derive(Clone, Copy)]
-enum Turn {
-    Refused,
-    Passed(usize, usize, bool),
-}
-
 // Whether a text may stand on an input: it is well-formed. Where no figures are asked for, it is not looked at.
+#[tactic(auto, using(crate::proofs::Turns::nothing_passes))]
 fn text_passes(s: &[u8], l: Layout, text: usize, len: usize, longest: u64) -> bool
     ensures { result ≡ text_passes longest (part s.now (l.text + text) len) }
 {
-    if len == 0 {
-        return true;
-    }
-    if longest == 0 {
-        return true;
-    }
-    well_formed(s, behind(l.text, text), len)
+    len == 0 || longest == 0 || well_formed(s, behind(l.text, text), len)
 }
 
 // Takes the entry at a place off the top of the stack, and puts what it brings there.
+#[tactic(auto, using(crate::proofs::Turns::let_in, crate::proofs::Turns::refused, crate::proofs::Turns::text_refused, crate::proofs::Turns::goes_on))]
 fn take_entry(
     stack: &mut [u64],
     grammar: &[u64],
@@ -81,23 +55,20 @@ fn take_entry(
     at: usize,
     text: usize,
     longest: u64,
-) -> Turn
+) -> Option<(usize, usize, bool)>
     requires { CanTurn stack.old s.now l top at text }
     ensures { Turned grammar.now longest s.now l stack.old top at text result stack.new }
 {
-    let entries = l.entries;
-    let size = l.size;
     let w = stack[top];
     let e = head_at(grammar, s, l, w % 64, at);
-    if !accepts(entries - at - 1, size - text, e) {
-        return Turn::Refused;
-    }
-    if !text_passes(s, l, text, e.text as usize, longest) {
-        return Turn::Refused;
+    if !accepts(l.entries - at - 1, l.size - text, e)
+        || !text_passes(s, l, text, e.text as usize, longest)
+    {
+        return None;
     }
     let over = exceeds(longest, w, e);
     let next = advance(stack, top, w, e, longest);
-    Turn::Passed(next, text + e.text as usize, over)
+    Some((next, text + e.text as usize, over))
 }
 
 // The cell of a scan's root.
@@ -113,6 +84,7 @@ fn first_cell(sort: u64) -> Cell
 }
 
 // The scan with a stack at hand. An entry brings one cell more at the most, so it has a cell more than the tape has entries.
+#[tactic(auto, using(crate::proofs::Turns::ended, crate::proofs::Turns::used_up, crate::proofs::Turns::first_waits))]
 fn run(
     stack: &mut [u64],
     grammar: &[u64],
@@ -121,7 +93,7 @@ fn run(
     from: Place,
     sort: u64,
     longest: u64,
-) -> Scanned
+) -> Option<(Place, bool)>
     requires { (l.entries < length stack.old) × Starts s.now l from sort }
     ensures { result ≡ scan_from grammar.now s.now l from sort longest }
 {
@@ -133,87 +105,77 @@ fn run(
     let mut over = false;
     while top < cells {
         if at == entries {
-            return Scanned::Malformed;
+            return None;
         }
-        let Turn::Passed(next, behind, more) = take_entry(
-            stack, grammar, s, l, top, at, text, longest,
-        ) else {
-            return Scanned::Malformed;
-        };
+        let (next, behind, more) = take_entry(stack, grammar, s, l, top, at, text, longest)?;
         top = next;
         text = behind;
-        over = either(over, more);
+        over |= more;
         at += 1;
     }
-    Scanned::Ends(Place { at, text }, over)
+    Some((Place { at, text }, over))
 }
 
-fn scan_short(grammar: &[u64], s: &[u8], l: Layout, from: Place, sort: u64, longest: u64) -> Scanned
-    requires { Starts s.now l from sort × (l.entries < 128) }
-    ensures { result ≡ scan_from grammar.now s.now l from sort longest }
-{
-    let mut stack = [0u64; 128];
-    run(&mut stack, grammar, s, l, from, sort, longest)
-}
-
-fn scan_middle(
+// The scan with a stack of N cells.
+fn scan_with<const N: usize>(
     grammar: &[u64],
     s: &[u8],
     l: Layout,
     from: Place,
     sort: u64,
     longest: u64,
-) -> Scanned
-    requires { Starts s.now l from sort × (l.entries < 512) }
+) -> Option<(Place, bool)>
+    requires { Starts s.now l from sort × (l.entries < N) × (N ≤ 1025) }
     ensures { result ≡ scan_from grammar.now s.now l from sort longest }
 {
-    let mut stack = [0u64; 512];
-    run(&mut stack, grammar, s, l, from, sort, longest)
-}
-
-fn scan_long(grammar: &[u64], s: &[u8], l: Layout, from: Place, sort: u64, longest: u64) -> Scanned
-    requires { Starts s.now l from sort }
-    ensures { result ≡ scan_from grammar.now s.now l from sort longest }
-{
-    let mut stack = [0u64; 1025];
+    let mut stack = [0u64; N];
     run(&mut stack, grammar, s, l, from, sort, longest)
 }
 
 // The stack is cleared before each scan, so it is a short one where that is enough.
-fn scan_held(grammar: &[u64], s: &[u8], l: Layout, from: Place, sort: u64, longest: u64) -> Scanned
+fn scan_held(
+    grammar: &[u64],
+    s: &[u8],
+    l: Layout,
+    from: Place,
+    sort: u64,
+    longest: u64,
+) -> Option<(Place, bool)>
     requires { Starts s.now l from sort }
     ensures { result ≡ scan_from grammar.now s.now l from sort longest }
 {
     if l.entries < 128 {
-        return scan_short(grammar, s, l, from, sort, longest);
+        scan_with::<128>(grammar, s, l, from, sort, longest)
+    } else if l.entries < 512 {
+        scan_with::<512>(grammar, s, l, from, sort, longest)
+    } else {
+        scan_with::<1025>(grammar, s, l, from, sort, longest)
     }
-    if l.entries < 512 {
-        return scan_middle(grammar, s, l, from, sort, longest);
-    }
-    scan_long(grammar, s, l, from, sort, longest)
 }
 
 // Whether the slice holds the layout, the place is in it, and a table has room for the sort.
 fn starts(s: &[u8], l: Layout, from: Place, sort: u64) -> bool
     ensures { result ≡ starts s.now l from sort }
 {
-    let at = from.at;
-    let text = from.text;
-    let entries = l.entries;
-    let size = l.size;
-    let placed = both(at <= entries, both(text <= size, sort < 32));
-    both(holds(s, l), placed)
+    holds(s, l) & (from.at <= l.entries) & (from.text <= l.size) & (sort < 32)
 }
 
 // The entries of a sort from a place on, by any table. `longest` is the longest text of a name, or 0 where the figures of an
 // input are not asked for, nor its texts tested.
-pub fn scan(grammar: &[u64], s: &[u8], l: Layout, from: Place, sort: u64, longest: u64) -> Scanned
+pub fn scan(
+    grammar: &[u64],
+    s: &[u8],
+    l: Layout,
+    from: Place,
+    sort: u64,
+    longest: u64,
+) -> Option<(Place, bool)>
     ensures { result ≡ scan_at grammar.now s.now l from sort longest }
 {
     if starts(s, l, from, sort) {
         scan_held(grammar, s, l, from, sort, longest)
     } else {
-        Scanned::Malformed
+        None
     }
 }
 
@@ -222,24 +184,23 @@ pub fn scan(grammar: &[u64], s: &[u8], l: Layout, from: Place, sort: u64, longes
 pub fn too_deep_in(grammar: &[u64], s: &[u8], l: Layout, sort: u64) -> bool
     ensures { result ≡ too_deep_in grammar.now s.now l sort }
 {
-    let Scanned::Ends(_, over) = scan(grammar, s, l, Place { at: 0, text: 0 }, sort, 0) else {
-        return false;
-    };
-    over
+    let found = scan(grammar, s, l, Place { at: 0, text: 0 }, sort, 0);
+    matches!(found, Some((_, true)))
 }
 
 // The place behind the subtree of a sort of document 01, which stands at a place: by counting, and what stands there is not looked at.
-pub fn skip(s: &[u8], l: Layout, from: Place, sort: u64) -> Skipped
+pub fn skip(s: &[u8], l: Layout, from: Place, sort: u64) -> Option<Place>
     ensures { result ≡ skip_at s.now l from sort }
 {
     if !starts(s, l, from, sort) {
-        return Skipped::Nowhere;
+        return None;
     }
     let counts = counts();
     end_of(&counts, s, l, from, due_of(sort), has_pairs(sort))
 }
 
 // `too_deep_in` by the table of document 01. A small tree is not measured.
+#[tactic(auto, using(crate::proofs::SmallTrees::flat_shallow))]
 pub fn too_deep(s: &[u8], l: Layout, sort: u64) -> bool
     ensures { result ≡ too_deep s.now l sort }
 {

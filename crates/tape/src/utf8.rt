@@ -4,46 +4,45 @@ ghost use Rattle.format.specs.Stands.{part};
 ghost use Rattle.format.specs.Utf8.{◌to◌, move, moved, next, run, well_formed, within};
 
 use crate::part::part_of;
-use grammar::codes::both;
 
 // Whether the `len` bytes from `start` on, as far as the slice reaches, are one whole character behind the other. Most texts are
 // 20 to 7E throughout, so the automaton runs only where there is another byte.
+#[tactic(auto, using(crate::proofs::Moves::run_printing, crate::proofs::Moves::run_end, format::proofs::Utf8::run_decides))]
 pub fn well_formed(s: &[u8], start: usize, len: usize) -> bool
     ensures { result ≡ well_formed (part s.now start len) }
 {
     let t = part_of(s, start, len);
-    let mut i = 0;
-    while i < t.len() {
-        if !is_printing(t[i]) {
+    for &b in t {
+        if !is_printing(b) {
             return ends_between(t);
         }
-        i += 1;
     }
     true
 }
 
 // Whether a byte is a character by itself.
+#[tactic(auto, unfolding(format::specs::Utf8::within))]
 fn is_printing(b: u8) -> bool
     ensures { result ≡ within (0x20 to 0x7E) b }
 {
-    both(0x20 <= b, b <= 0x7e)
+    (0x20 <= b) & (b <= 0x7e)
 }
 
 // Whether a text ends between characters.
+#[tactic(auto, unfolding(format::specs::Utf8::run))]
 fn ends_between(t: &[u8]) -> bool
     ensures { result ≡ eqb (run 0 t.now) 0 }
 {
     let mut state: u8 = 0;
-    let mut i = 0;
-    while i < t.len() {
-        state = next(state, t[i]);
-        i += 1;
+    for &b in t {
+        state = next(state, b);
     }
     state == 0
 }
 
 // The state behind a byte. 0 is between characters, 1 to 3 await so many bytes from 80 to BF, 4 to 7 stand behind a first byte that
 // allows fewer second ones, and 8 is ill-formed.
+#[tactic(auto, using(crate::proofs::Moves::rows), unfolding(format::specs::Utf8::moves))]
 fn next(state: u8, b: u8) -> u8
     ensures { result ≡ next state b }
 {
@@ -61,6 +60,7 @@ fn next(state: u8, b: u8) -> u8
 }
 
 // The state behind the first byte of a character, from the lowest byte up.
+#[tactic(auto, using(crate::proofs::Moves::first_bytes))]
 fn first(b: u8) -> u8
     ensures { result ≡ next 0 b }
 {
@@ -92,14 +92,9 @@ fn first(b: u8) -> u8
 }
 
 // The state behind a later byte: `state`, if it is one of `low` to `high`.
+#[tactic(auto, unfolding(format::specs::Utf8::within, format::specs::Utf8::moved))]
 fn later(b: u8, low: u8, high: u8, state: u8) -> u8
     ensures { result ≡ moved (move (low to high) state ∷ []) b }
 {
-    if b < low {
-        return 8;
-    }
-    if high < b {
-        return 8;
-    }
-    state
+    if (low <= b) & (b <= high) { state } else { 8 }
 }

@@ -3,7 +3,7 @@ use buffer::{read_size, read_value};
 use tape::part::part_of;
 
 // Where a vector's parts begin, and its kind.
-#[derive(Clone, Copy)]
+#[derive(Clone, Copy, Debug, PartialEq, Eq)]
 pub struct Vector {
     pub kind: usize,
     pub limit: u32,
@@ -23,13 +23,7 @@ pub struct Vector {
 
 // The place behind `n` bytes.
 fn past(s: &[u8], at: usize, n: usize) -> usize {
-    if s.len() <= at {
-        return s.len();
-    }
-    if s.len() - at <= n {
-        return s.len();
-    }
-    at + n
+    at.saturating_add(n).min(s.len())
 }
 
 // The first vector's place.
@@ -56,13 +50,11 @@ fn past_tape(s: &[u8], at: usize, has: bool) -> usize {
 
 // 64 kinds for each operation, from 1 on: one for each number. Anything else is of kind 1.
 fn kind_of(operation: u32, number: u64) -> usize {
-    if 15 < operation {
-        return 1;
+    if operation <= 15 && number <= 63 {
+        64 * (operation as usize) + (number as usize)
+    } else {
+        1
     }
-    if 63 < number {
-        return 1;
-    }
-    64 * (operation as usize) + (number as usize)
 }
 
 pub fn read_vector(s: &[u8], at: usize) -> Vector {

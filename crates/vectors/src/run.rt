@@ -21,66 +21,40 @@ fn message_room() -> [u8; 4096] {
 // The five numbers of an answer.
 fn tells_answer(r: Answer, numbers: &[u8]) -> bool {
     let span = r.span;
-    if r.number as u64 != read_value(numbers, 0) {
-        return false;
-    }
-    if span.start as u64 != read_value(numbers, 8) {
-        return false;
-    }
-    if span.end as u64 != read_value(numbers, 16) {
-        return false;
-    }
-    if r.message_length as u64 != read_value(numbers, 24) {
-        return false;
-    }
-    r.charged as u64 == read_value(numbers, 32)
+    r.number as u64 == read_value(numbers, 0)
+        && span.start as u64 == read_value(numbers, 8)
+        && span.end as u64 == read_value(numbers, 16)
+        && r.message_length as u64 == read_value(numbers, 24)
+        && r.charged as u64 == read_value(numbers, 32)
 }
 
 // All seven.
 fn tells(r: Previewed, numbers: &[u8]) -> bool {
-    if !tells_answer(r.answer, numbers) {
-        return false;
-    }
-    if r.entries as u64 != read_value(numbers, 40) {
-        return false;
-    }
-    r.text as u64 == read_value(numbers, 48)
-}
-
-fn byte(s: &[u8], i: usize) -> u8 {
-    if i < s.len() { s[i] } else { 0 }
+    tells_answer(r.answer, numbers)
+        && r.entries as u64 == read_value(numbers, 40)
+        && r.text as u64 == read_value(numbers, 48)
 }
 
 // Whether the buffer holds the bytes, and zeros behind them.
 fn holds(buffer: &[u8], head: &[u8]) -> bool {
-    if buffer.len() < head.len() {
+    let Some((front, behind)) = buffer.split_at_checked(head.len()) else {
         return false;
-    }
-    for i in 0..buffer.len() {
-        if buffer[i] != byte(head, i) {
-            return false;
-        }
-    }
-    true
+    };
+    front == head && behind.iter().all(|b| *b == 0)
 }
 
 // Counts as a list has them, four bytes each, and zeros behind the last.
 fn counts_of(given: &[u8]) -> [u32; 255] {
     let mut counts = [0u32; 255];
-    for i in 0..255usize {
-        counts[i] = read_size(given, 4 * i);
+    for (i, n) in counts.iter_mut().enumerate() {
+        *n = read_size(given, 4 * i);
     }
     counts
 }
 
 // Whether the counts are those that a list has.
 fn same_counts(counts: &[u32; 255], expected: &[u8]) -> bool {
-    for i in 0..255usize {
-        if counts[i] != read_size(expected, 4 * i) {
-            return false;
-        }
-    }
-    true
+    *counts == counts_of(expected)
 }
 
 // A registry's answer; the counts that it hands out are put in the place of those given.
@@ -198,23 +172,14 @@ fn run(
 fn answers(s: &[u8], v: Vector, res: &mut [u8], work: &mut [u8], message: &mut [u8]) -> bool {
     let mut counts = counts_of(bytes(s, v.given));
     let r = run(s, v, res, work, message, &mut counts);
-    if !tells(r, part_of(s, v.numbers, 56)) {
-        return false;
-    }
-    same_counts(&counts, bytes(s, v.counted))
+    tells(r, part_of(s, v.numbers, 56)) && same_counts(&counts, bytes(s, v.counted))
 }
 
 fn on_buffers(s: &[u8], v: Vector, res: &mut [u8], work: &mut [u8], message: &mut [u8]) -> bool {
-    if !answers(s, v, res, work, message) {
-        return false;
-    }
-    if !holds(res, bytes(s, v.result)) {
-        return false;
-    }
-    if !holds(work, b"") {
-        return false;
-    }
-    holds(message, bytes(s, v.message))
+    answers(s, v, res, work, message)
+        && holds(res, bytes(s, v.result))
+        && holds(work, b"")
+        && holds(message, bytes(s, v.message))
 }
 
 fn lend_result(s: &[u8], v: Vector, work: &mut [u8], message: &mut [u8]) -> bool {

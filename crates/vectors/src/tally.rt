@@ -2,21 +2,14 @@
 use std::io;
 
 fn one_more(counts: &mut [u64; 1024], kind: usize) {
-    if kind < 1024 {
-        let n = counts[kind];
-        if n < 1000000 {
-            counts[kind] = n + 1;
-        }
+    if kind < 1024 && counts[kind] < 1000000 {
+        counts[kind] += 1;
     }
 }
 
 pub fn count(counts: &mut [u64; 1024], kind: usize) {
     one_more(counts, 0);
     one_more(counts, kind);
-}
-
-fn counted(counts: &[u64; 1024], kind: usize) -> u64 {
-    if kind < 1024 { counts[kind] } else { 0 }
 }
 
 fn print_operation(rt: &impl Print, operation: usize) -> io::Result<()> {
@@ -52,10 +45,10 @@ fn print_kind(rt: &impl Print, kind: usize, all: u64, good: u64) -> io::Result<(
 // A line for each kind that the list has, and the total.
 pub fn print(rt: &impl Print, all: &[u64; 1024], good: &[u64; 1024]) -> io::Result<()> {
     for kind in 1..1024usize {
-        let n = counted(all, kind);
+        let n = all[kind];
         if n != 0 {
-            print_kind(rt, kind, n, counted(good, kind))?;
+            print_kind(rt, kind, n, good[kind])?;
         }
     }
-    print_counts(rt, counted(all, 0), counted(good, 0))
+    print_counts(rt, all[0], good[0])
 }

@@ -1,53 +1,51 @@
 -- The answer so far of a walk that only reads: how it goes on, and what stops it.
 -- Assumes nothing.
-use Rattle.std.specs.Prelude.{ℕ, zero, suc, List}
+use Rattle.messages.specs.declared.Refused.{Refused}
+use Rattle.std.specs.Prelude.{ℕ, zero, suc, List, Option, Result, Ok, Err}
 use Rattle.nodes.specs.Node.{on_value, on_place, expect_at}
 use Rattle.tape.specs.declared.layout.Layout.{Layout}
 use Rattle.tape.specs.declared.layout.Place.{Place}
-use Rattle.tape.specs.declared.scan.Skipped.{Skipped}
 use Rattle.nodes.specs.declared.Refusal.{Refusal}
-use Rattle.messages.specs.Reason.{refused_at}
+use Rattle.messages.specs.Reason.{refused_at, without_message}
 use Rattle.messages.specs.declared.Reason.{Reason}
 use Rattle.messages.specs.declared.Reason.TheVariants.{WithoutMessage}
-use Rattle.walk_state.specs.declared.reading.Checked.{Checked}
-use Rattle.walk_state.specs.declared.reading.Checked.TheVariants.{Passed, Refused}
 
 -- goes on at the place, unless there is a refusal
-abbrev pub after : (Place → Checked) → Checked → Checked
-after f (Passed p) = f p
-after f (Refused r) = Refused r
+abbrev pub after : (Place → Result Place Refused) → Result Place Refused → Result Place Refused
+after f (Ok p) = f p
+after f (Err r) = Err r
 
-abbrev pub and_then_in : Checked → Checked → Checked
-and_then_in (Passed p) w = w
-and_then_in (Refused r) w = Refused r
+abbrev pub and_then_in : Result Place Refused → Result Place Refused → Result Place Refused
+and_then_in (Ok p) w = w
+and_then_in (Err r) w = Err r
 
 -- f along the items of a list
-unfoldable pub items_in : (Checked → Checked) → ℕ → Checked → Checked
+unfoldable pub items_in : ((Result Place Refused) → Result Place Refused) → ℕ → Result Place Refused → Result Place Refused
 items_in f zero w = w
-items_in f (suc n) w = after (λ p. items_in f n (f (Passed p))) w
+items_in f (suc n) w = after (λ p. items_in f n (f (Ok p))) w
 
 -- ------------------------------------------------------------------ refusals
 
-unfoldable pub refused_in : ℕ → Reason → Checked
-refused_in span reason = Refused (refused_at span reason)
+unfoldable pub refused_in : ℕ → Reason → Result Place Refused
+refused_in span reason = Err (refused_at span reason)
 
 -- what no accepted tape shows
-unfoldable pub without_message_of : Refusal → Checked
-without_message_of f = Refused (record { span = f.span; reason = WithoutMessage f.number })
+unfoldable pub without_message_of : Refusal → Result Place Refused
+without_message_of f = Err (without_message f)
 
-abbrev pub malformed_in : Checked
+abbrev pub malformed_in : Result Place Refused
 malformed_in = refused_in 0 (WithoutMessage 2)
 
 -- no nesting is left
-abbrev pub too_deep_in : Checked
+abbrev pub too_deep_in : Result Place Refused
 too_deep_in = refused_in 0 (WithoutMessage 3)
 
 -- ------------------------------------------------------------------ ways past what is not looked at
 
 -- the place behind what was skipped
-unfoldable pub passed_in : Skipped → Checked
-passed_in = on_place malformed_in Passed
+unfoldable pub passed_in : Option Place → Result Place Refused
+passed_in = on_place malformed_in Ok
 
 -- past a field's name
-unfoldable pub past_name_in : List ℕ → Layout → Checked → Checked
-past_name_in s l = after λ p. on_value malformed_in (λ size next. Passed next) (expect_at s l p 40)
+unfoldable pub past_name_in : List ℕ → Layout → Result Place Refused → Result Place Refused
+past_name_in s l = after λ p. on_value malformed_in (λ size next. Ok next) (expect_at s l p 40)

@@ -7,7 +7,7 @@ use messages::{Reason, Refused, refuse};
 use tape::layout::Place;
 
 // The next place of the body or the condition that is walked, the output, and what was charged.
-#[derive(Clone, Copy)]
+#[derive(Clone, Copy, Debug, PartialEq, Eq)]
 pub struct State {
     pub place: Place,
     pub out: Writer,
@@ -15,7 +15,7 @@ pub struct State {
 }
 
 // The state of a walk; or the first refusal, and what was charged until then.
-#[derive(Clone, Copy)]
+#[derive(Clone, Copy, Debug, PartialEq, Eq)]
 pub enum Walk {
     Going(State),
     Refused(Refused, u32),

@@ -1,3 +1,3 @@
 -- Laws of the older tape, for the proofs here and above.
-mod Heads
+pub mod Heads
 pub mod Entries

@@ -1,55 +1,29 @@
--- The cycle of the walkers. The measure is three times the nesting and a rank: a member's rank is above those of the
--- members that it calls at its own nesting.
+-- The cycle of the walkers. The measure is twice the nesting, and one more for a member that calls others at its own nesting.
 use mathlib.Core.Path.{◌≡◌}
-use Prim.Native.Nat.{◌+◌, ◌*◌}
+use Prim.Native.Nat.{◌+◌, ◌-◌, ◌*◌}
+use Rattle.std.proofs.Common.{Ok}
 use Rattle.walk_state.specs.Reading.{items_in}
 use Rattle.check_walk.specs.Walk.{field_in, walkers}
 use Rattle.check_walk.proofs.+walk.Given as goal
 
-abbrev pub decreases-agg : goal.decreases-agg
-decreases-agg l = l.nesting * 3 + 1
-
-abbrev pub decreases-both : goal.decreases-both
-decreases-both l = l.nesting * 3 + 1
-
 abbrev pub decreases-check_temporal_agg_body : goal.decreases-check_temporal_agg_body
-decreases-check_temporal_agg_body l = l.nesting * 3
+decreases-check_temporal_agg_body l = l.nesting * 2
 
 abbrev pub decreases-check_temporal_condition_body : goal.decreases-check_temporal_condition_body
-decreases-check_temporal_condition_body l = l.nesting * 3
+decreases-check_temporal_condition_body l = l.nesting * 2
 
 abbrev pub decreases-check_temporal_term : goal.decreases-check_temporal_term
-decreases-check_temporal_term l = l.nesting * 3
-
-abbrev pub decreases-condition : goal.decreases-condition
-decreases-condition l = l.nesting * 3 + 2
+decreases-check_temporal_term l = l.nesting * 2
 
 abbrev pub decreases-fields : goal.decreases-fields
-decreases-fields l = l.nesting * 3 + 1
-
-abbrev pub decreases-formerly : goal.decreases-formerly
-decreases-formerly l = l.nesting * 3 + 1
-
-abbrev pub decreases-sides : goal.decreases-sides
-decreases-sides l = l.nesting * 3 + 1
+decreases-fields l = l.nesting * 2 + 1
 
 abbrev pub decreases-since : goal.decreases-since
-decreases-since l = l.nesting * 3 + 1
+decreases-since l = l.nesting * 2 + 1
 
-abbrev pub decreases-term : goal.decreases-term
-decreases-term l = l.nesting * 3 + 2
+-- the walk over the items that are left is that over all
+abbrev pub invariant-fields-loop : goal.invariant-fields-loop
+invariant-fields-loop l = items_in (field_in l.s l.d (walkers l.s l.d l.nesting) l.span) (l.count - l.counter) (Ok l.q) ≡ items_in (field_in l.s l.d (walkers l.s l.d l.nesting) l.span) l.count (Ok l.initial.q)
 
-abbrev pub decreases-terms : goal.decreases-terms
-decreases-terms l = l.nesting * 3 + 1
-
-abbrev pub invariant-fields-loop-left : goal.invariant-fields-loop-left
-invariant-fields-loop-left l = items_in (field_in l.s l.d (walkers l.s l.d l.nesting) l.span) l.left l.a ≡ items_in (field_in l.s l.d (walkers l.s l.d l.nesting) l.span) l.count l.initial.a
-
-abbrev pub decreases-fields-loop-left : goal.decreases-fields-loop-left
-decreases-fields-loop-left l = l.left
-
-abbrev pub invariant-terms-loop-left : goal.invariant-terms-loop-left
-invariant-terms-loop-left l = items_in ((walkers l.s l.d l.nesting).term l.span) l.left l.a ≡ items_in ((walkers l.s l.d l.nesting).term l.span) l.count l.initial.a
-
-abbrev pub decreases-terms-loop-left : goal.decreases-terms-loop-left
-decreases-terms-loop-left l = l.left
+abbrev pub invariant-check_temporal_term-loop : goal.invariant-check_temporal_term-loop
+invariant-check_temporal_term-loop l = items_in ((walkers l.s l.d l.n).term l.span) (l.count - l.counter) (Ok l.q) ≡ items_in ((walkers l.s l.d l.n).term l.span) l.count (Ok l.initial.q)

@@ -1,5 +1,4 @@
--- `de_morgan::put_heads` meets its contract. The loop's invariant: what is left to put gives the whole, and the list has room for the
--- Ors that are left.
+-- The loop of `de_morgan::put_heads`: what is left to put gives the whole, and the list has room for the Ors that are left.
 use Prim.Native.Nat.{◌-◌, ◌*◌, ◌≤◌}
 use mathlib.Core.Path.{◌≡◌}
 use mathlib.Core.List.{[]}
@@ -9,9 +8,5 @@ use Rattle.de_morgan.proofs.Heads.{left_to_put}
 use Rattle.de_morgan.proofs.put_heads.Given as goal
 
 abbrev pub invariant-loop-at : goal.invariant-loop-at
-invariant-loop-at l = (length l.out ≡ length l.initial.out) × (length l.sides ≡ length l.initial.sides) × (l.at ≤ l.l.entries) × (l.text ≤ l.l.size) × (l.top ≤ length l.initial.sides)
-    × (2 * ors_from l.s l.l l.at ≤ l.top) × (l.put ≤ 4 * l.at)
+invariant-loop-at l = (l.text ≤ l.l.size) × (l.top ≤ length l.sides) × (2 * ors_from l.s l.l l.at ≤ l.top) × (l.put ≤ 4 * l.at)
     × (left_to_put l.s l.l l.n (l.l.entries - l.at) l.at l.text l.put (drop l.top l.sides) l.out ≡ left_to_put l.s l.l l.n l.l.entries 0 0 0 [] l.initial.out)
-
-abbrev pub decreases-loop-at : goal.decreases-loop-at
-decreases-loop-at l = l.l.entries - l.at

@@ -10,7 +10,4 @@ use Rattle.expand_counts.proofs.count_entries.Given as goal
 abbrev pub invariant-loop-at : goal.invariant-loop-at
 invariant-loop-at l = (count_from l.reg l.d (rows_in l.places l.count) l.s l.l (l.l.entries - l.at) (place l.at l.text) l.w l.counts
     ≡ count_from l.reg l.d (rows_in l.places l.count) l.s l.l l.l.entries origin (passing 0 0) l.initial.counts)
-    × (l.w.items ≤ 2048 * l.at) × (length l.counts ≡ length l.initial.counts) × (l.at ≤ l.l.entries) × (l.text ≤ l.l.size)
-
-abbrev pub decreases-loop-at : goal.decreases-loop-at
-decreases-loop-at l = l.l.entries - l.at
+    × (l.w.items ≤ 2048 * l.at) × (length l.counts ≡ length l.initial.counts) × (l.text ≤ l.l.size)

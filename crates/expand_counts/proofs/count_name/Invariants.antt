@@ -10,6 +10,3 @@ use Rattle.expand_counts.proofs.count_name.Given as goal
 abbrev pub invariant-loop-i : goal.invariant-loop-i
 invariant-loop-i l = (take l.i l.counts ++ raised_at l.reg l.d (rows_in (drop (2 * l.i) l.places) (l.count - l.i)) l.name (drop l.i l.counts) ≡ raised_at l.reg l.d (rows_in l.places l.count) l.name l.initial.counts)
     × (length l.counts ≡ length l.initial.counts)
-
-abbrev pub decreases-loop-i : goal.decreases-loop-i
-decreases-loop-i l = l.rows - l.i

@@ -1,8 +1,7 @@
 -- The cycle of the walkers. The measure is eight times the nesting and a rank: a member's rank is above those of the members
 -- that it calls at its own nesting, and below 8.
-use Prim.Native.Nat.{◌+◌, ◌*◌}
+use Prim.Native.Nat.{◌+◌, ◌-◌, ◌*◌}
 use mathlib.Core.Path.{◌≡◌}
-use lib.ListN.{length}
 use Rattle.expand_calls.specs.Output.{reads, progress}
 use Rattle.expand_walk.specs.Walkers.{items_in, arg_in, walkers}
 use Rattle.expand_walk.proofs.+walk.Given as goal
@@ -58,8 +57,5 @@ decreases-sides l = l.n * 8 + 1
 abbrev pub decreases-since : goal.decreases-since
 decreases-since l = l.n * 8 + 1
 
-abbrev pub invariant-expand_call_args-loop-left : goal.invariant-expand_call_args-loop-left
-invariant-expand_call_args-loop-left l = (items_in (arg_in (reads l.reg l.places l.cond l.x) (walkers (reads l.reg l.places l.cond l.x) l.n)) l.left (progress l.a l.work l.res) ≡ items_in (arg_in (reads l.reg l.places l.cond l.x) (walkers (reads l.reg l.places l.cond l.x) l.n)) l.count (progress l.initial.a l.initial.work l.initial.res)) × (length l.work ≡ length l.initial.work) × (length l.res ≡ length l.initial.res)
-
-abbrev pub decreases-expand_call_args-loop-left : goal.decreases-expand_call_args-loop-left
-decreases-expand_call_args-loop-left l = l.left
+abbrev pub invariant-expand_call_args-loop : goal.invariant-expand_call_args-loop
+invariant-expand_call_args-loop l = items_in (arg_in (reads l.reg l.places l.cond l.x) (walkers (reads l.reg l.places l.cond l.x) l.n)) (l.count - l.counter) (progress l.a l.work l.res) ≡ items_in (arg_in (reads l.reg l.places l.cond l.x) (walkers (reads l.reg l.places l.cond l.x) l.n)) l.count (progress l.initial.a l.initial.work l.initial.res)

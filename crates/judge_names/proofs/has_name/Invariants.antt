@@ -8,7 +8,4 @@ use Rattle.judge_names.proofs.has_name.Given as goal
 
 abbrev pub invariant-loop-at : goal.invariant-loop-at
 invariant-loop-at l = (contains (names_in (entries_from l.s l.l l.at (l.l.entries - l.at))) l.name ≡ contains (names_in (entries_in l.s l.l)) l.name)
-    × (l.text ≡ text_at l.s l.l l.at) × (l.text ≤ l.l.size) × (l.at ≤ l.l.entries)
-
-abbrev pub decreases-loop-at : goal.decreases-loop-at
-decreases-loop-at l = l.l.entries - l.at
+    × (l.text ≡ text_at l.s l.l l.at) × (l.text ≤ l.l.size)

@@ -1,10 +1,8 @@
--- `nodes::past_texts` meets its contract. The loop's invariant: the way past what is left is the way past all. Assumes nothing.
+-- The loop of `nodes::past_texts`: the way past what is left is the way past all. Assumes nothing.
 use mathlib.Core.Path.{◌≡◌}
+use Prim.Native.Nat.{◌-◌}
 use Rattle.nodes.specs.Node.{past_items, past_entry_at}
 use Rattle.nodes.proofs.past_texts.Given as goal
 
-abbrev pub invariant-loop-left : goal.invariant-loop-left
-invariant-loop-left l = past_items (past_entry_at l.s l.l 40) l.left l.q ≡ past_items (past_entry_at l.s l.l 40) l.initial.left l.initial.q
-
-abbrev pub decreases-loop-left : goal.decreases-loop-left
-decreases-loop-left l = l.left
+abbrev pub invariant-loop : goal.invariant-loop
+invariant-loop l = past_items (past_entry_at l.s l.l 40) (l.count - l.counter) l.q ≡ past_items (past_entry_at l.s l.l 40) l.count l.fn.p

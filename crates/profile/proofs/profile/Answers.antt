@@ -4,20 +4,15 @@ use Rattle.format.proofs.Accepted.{bytes_all}
 use Rattle.profile.proofs.Operation.{refused, given, given_or}
 use Rattle.profile.proofs.profile.Goals as goal
 
-pub returns-then-none_on : goal.returns-then-none_on
-returns-then-none_on c = let at = c in
-    let s = at.args.condition.now in
-    given s (bytes_all s (λ i. (at.shared_slice_known-1.given i).fits)) (sym at.accept_named.ensures ∙ c.in-Tape.is)
-    (sym c.none_on.ensures ∙ c.if-none_on.true) c.profile_in.ensures
+pub returns-in-Ok : goal.returns-in-Ok
+returns-in-Ok c =
+    given _ (bytes_all _ (λ i. (c.type_inv.condition i).fits)) (sym c.accept_named.ensures ∙ c.in-Ok.is) (sym c.none_on.ensures ∙ c.if-none_on.true)
+    c.profile_in.ensures
 
-pub returns-else-none_on : goal.returns-else-none_on
-returns-else-none_on c = let at = c in
-    let s = at.args.condition.now in
-    given_or s (bytes_all s (λ i. (at.shared_slice_known-1.given i).fits)) (sym at.accept_named.ensures ∙ c.in-Tape.is)
-    c.profile_rewritten.ensures
+pub returns-in-Ok-2 : goal.returns-in-Ok-2
+returns-in-Ok-2 c =
+    given_or _ (bytes_all _ (λ i. (c.type_inv.condition i).fits)) (sym c.accept_named.ensures ∙ c.in-Ok.is) c.profile_rewritten.ensures
 
-pub returns-in-Refused : goal.returns-in-Refused
-returns-in-Refused c = let at = c in
-    let s = at.args.condition.now in
-    refused s (bytes_all s (λ i. (at.shared_slice_known-1.given i).fits)) (sym at.accept_named.ensures ∙ c.in-Refused.is)
-    c.end.ensures
+pub returns-in-Err : goal.returns-in-Err
+returns-in-Err c =
+    refused _ (bytes_all _ (λ i. (c.type_inv.condition i).fits)) (sym c.accept_named.ensures ∙ c.in-Err.is) (rw c.number.ensures at c.end.ensures)

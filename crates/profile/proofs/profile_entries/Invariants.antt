@@ -8,8 +8,5 @@ use Rattle.profile.specs.Spans.{spans_in}
 use Rattle.profile.proofs.profile_entries.Given as goal
 
 abbrev pub invariant-loop-at : goal.invariant-loop-at
-invariant-loop-at l = (length l.spans ≡ length l.initial.spans) × (l.at ≤ l.l.entries) × (l.nodes ≤ 16) × (l.top ≤ length l.spans) × (34 ≤ l.top + 2 * l.nodes + 2)
+invariant-loop-at l = (l.nodes ≤ 16) × (l.top ≤ length l.spans) × (34 ≤ l.top + 2 * l.nodes + 2)
     × (profile_heads l.nodes (spans_in (drop l.top l.spans)) (heads_at l.s l.l l.at (l.l.entries - l.at)) ≡ profile_all l.s l.l)
-
-abbrev pub decreases-loop-at : goal.decreases-loop-at
-decreases-loop-at l = l.l.entries - l.at

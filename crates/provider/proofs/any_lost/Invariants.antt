@@ -1,12 +1,8 @@
--- `provider::any_lost` meets its contract. The loop's invariant: the codes from i on decide it.
+-- `provider::any_lost` meets its contract. The loop's invariant: the codes that are left decide it.
 use mathlib.Core.Path.{◌≡◌}
-use Prim.Native.Nat.{◌-◌, ◌≤◌}
 use lib.ListN.{drop}
 use Rattle.provider.specs.Turned.{any_lost}
 use Rattle.provider.proofs.any_lost.Given as goal
 
-abbrev pub invariant-loop-i : goal.invariant-loop-i
-invariant-loop-i l = (l.i ≤ l.n) × (any_lost l.back (drop l.i l.codes) ≡ any_lost l.back l.codes)
-
-abbrev pub decreases-loop-i : goal.decreases-loop-i
-decreases-loop-i l = l.n - l.i
+abbrev pub invariant-loop-code : goal.invariant-loop-code
+invariant-loop-code l = any_lost l.way (drop l.code-index l.codes) ≡ any_lost l.way l.codes

@@ -5,14 +5,11 @@ use Rattle.answer.proofs.Ends.{no_buffers_lem}
 use Rattle.provider.proofs.Operation.{provider_accepted, provider_refused}
 use Rattle.provider.proofs.provider.Goals as goal
 
-pub returns-in-Tape : goal.returns-in-Tape
-returns-in-Tape c = let at = c in
-    let tape = at.args.tape.now in
-    provider_accepted tape (bytes_all tape (λ i. (at.shared_slice_known-1.given i).fits))
-    (sym at.accept_provider.ensures ∙ c.in-Tape.is) c.result_written.ensures
+pub returns-in-Ok : goal.returns-in-Ok
+returns-in-Ok c =
+    provider_accepted _ (bytes_all _ (λ i. (c.type_inv.tape i).fits)) (sym c.accept_provider.ensures ∙ c.in-Ok.is) c.result_written.ensures
 
-pub returns-in-Refused : goal.returns-in-Refused
-returns-in-Refused c = let at = c in
-    let tape = at.args.tape.now in
-    provider_refused tape (bytes_all tape (λ i. (at.shared_slice_known-1.given i).fits))
-    (sym at.accept_provider.ensures ∙ c.in-Refused.is) (no_buffers_lem _ c.refuse_result.ensures)
+pub returns-in-Err : goal.returns-in-Err
+returns-in-Err c =
+    provider_refused _ (bytes_all _ (λ i. (c.type_inv.tape i).fits)) (sym c.accept_provider.ensures ∙ c.in-Err.is)
+    (no_buffers_lem _ (rw c.number.ensures at c.refuse_result.ensures))

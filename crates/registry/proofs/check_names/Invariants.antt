@@ -6,7 +6,4 @@ use Rattle.registry.specs.Places.{rows_in, build_from_at, build_at}
 use Rattle.registry.proofs.check_names.Given as goal
 
 abbrev pub invariant-loop-i : goal.invariant-loop-i
-invariant-loop-i l = (build_from_at l.s l.l (rows_in l.places l.i) (rows_in l.rest (l.count - l.i)) ≡ build_at l.s l.l (rows_in l.places l.count)) × (l.rest ≡ drop (2 * l.i) l.places)
-
-abbrev pub decreases-loop-i : goal.decreases-loop-i
-decreases-loop-i l = l.count - l.i
+invariant-loop-i l = build_from_at l.s l.l (rows_in l.places l.i) (rows_in (drop (2 * l.i) l.places) (l.count - l.i)) ≡ build_at l.s l.l (rows_in l.places l.count)

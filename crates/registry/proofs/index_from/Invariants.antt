@@ -9,7 +9,4 @@ use Rattle.registry.proofs.index_from.Given as goal
 
 abbrev pub invariant-loop-at : goal.invariant-loop-at
 invariant-loop-at l = (rows_in l.places l.n ++ take (l.room - l.n) (rows_from l.s l.l (l.l.entries - l.at) (place l.at l.text)) ≡ take l.room (rows_from l.s l.l l.l.entries origin))
-    × (l.n ≤ l.room) × (length l.places ≡ length l.initial.places) × (l.at ≤ l.l.entries) × (l.text ≤ l.l.size)
-
-abbrev pub decreases-loop-at : goal.decreases-loop-at
-decreases-loop-at l = l.l.entries - l.at
+    × (l.n ≤ l.room) × (length l.places ≡ length l.initial.places) × (l.text ≤ l.l.size)

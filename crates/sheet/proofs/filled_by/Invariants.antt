@@ -1,10 +1,8 @@
--- `sheet::filled_by` meets its contract.
+-- The loop of `sheet::filled_by`: what is left is filled by as many as are left.
 use mathlib.Core.Path.{◌≡◌}
+use Prim.Native.Nat.{◌-◌}
 use Rattle.sheet.specs.Sheet.{filled_by}
 use Rattle.sheet.proofs.filled_by.Given as goal
 
-abbrev pub invariant-loop-left : goal.invariant-loop-left
-invariant-loop-left l = filled_by l.left l.rest ≡ filled_by l.count l.s
-
-abbrev pub decreases-loop-left : goal.decreases-loop-left
-decreases-loop-left l = l.left
+abbrev pub invariant-loop : goal.invariant-loop
+invariant-loop l = filled_by (l.count - l.counter) l.rest ≡ filled_by l.count l.s

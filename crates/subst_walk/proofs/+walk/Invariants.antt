@@ -1,6 +1,6 @@
 -- The cycle of the walkers. The measure is eight times the nesting and a rank: a member's rank is above those of the members
 -- that it calls at its own nesting, and below 8.
-use Prim.Native.Nat.{◌+◌, ◌*◌}
+use Prim.Native.Nat.{◌+◌, ◌*◌, ◌-◌}
 use mathlib.Core.Path.{◌≡◌}
 use lib.ListN.{length}
 use Rattle.walk_state.specs.Writing.{progress}
@@ -62,14 +62,14 @@ decreases-terms l = l.n * 8 + 1
 abbrev pub decreases-formerly : goal.decreases-formerly
 decreases-formerly l = l.n * 8 + 1
 
-abbrev pub invariant-fields-loop-left : goal.invariant-fields-loop-left
-invariant-fields-loop-left l = (items_in (field_in (tapes l.def l.call l.args l.m) (walkers (tapes l.def l.call l.args l.m) l.n) l.span) l.left (progress l.a l.buf) ≡ items_in (field_in (tapes l.def l.call l.args l.m) (walkers (tapes l.def l.call l.args l.m) l.n) l.span) l.count (progress l.initial.a l.initial.buf)) × (length l.buf ≡ length l.initial.buf)
+abbrev pub invariant-fields-loop : goal.invariant-fields-loop
+invariant-fields-loop l =
+    (items_in (field_in (tapes l.def l.call l.args l.m) (walkers (tapes l.def l.call l.args l.m) l.n) l.span) (l.count - l.counter) (progress l.a l.buf)
+    ≡ items_in (field_in (tapes l.def l.call l.args l.m) (walkers (tapes l.def l.call l.args l.m) l.n) l.span) l.count (progress l.initial.a l.initial.buf))
+    × (length l.buf ≡ length l.initial.buf)
 
-abbrev pub decreases-fields-loop-left : goal.decreases-fields-loop-left
-decreases-fields-loop-left l = l.left
-
-abbrev pub invariant-terms-loop-left : goal.invariant-terms-loop-left
-invariant-terms-loop-left l = (items_in ((walkers (tapes l.def l.call l.args l.m) l.n).term l.span) l.left (progress l.a l.buf) ≡ items_in ((walkers (tapes l.def l.call l.args l.m) l.n).term l.span) l.count (progress l.initial.a l.initial.buf)) × (length l.buf ≡ length l.initial.buf)
-
-abbrev pub decreases-terms-loop-left : goal.decreases-terms-loop-left
-decreases-terms-loop-left l = l.left
+abbrev pub invariant-terms-loop : goal.invariant-terms-loop
+invariant-terms-loop l =
+    (items_in ((walkers (tapes l.def l.call l.args l.m) l.n).term l.span) (l.count - l.counter) (progress l.a l.buf)
+    ≡ items_in ((walkers (tapes l.def l.call l.args l.m) l.n).term l.span) l.count (progress l.initial.a l.initial.buf))
+    × (length l.buf ≡ length l.initial.buf)

@@ -1,11 +1,8 @@
 -- `weeks::all_fit` meets its contract. The loop's invariant: the entries from i on decide it.
-use Rattle.std.proofs.Common.{◌≡◌, ◌-◌, ◌≤◌}
+use Rattle.std.proofs.Common.{◌≡◌, ◌-◌}
 use Rattle.format.specs.Older.{fits_older}
 use Rattle.weeks.specs.Heads.{heads_at}
 use Rattle.weeks.proofs.all_fit.Given as goal
 
 abbrev pub invariant-loop-i : goal.invariant-loop-i
-invariant-loop-i l = (l.i ≤ l.n) × (fits_older (heads_at l.s l.l l.i (l.n - l.i)) ≡ fits_older (heads_at l.s l.l 0 l.n))
-
-abbrev pub decreases-loop-i : goal.decreases-loop-i
-decreases-loop-i l = l.n - l.i
+invariant-loop-i l = fits_older (heads_at l.s l.l l.i (l.l.entries - l.i)) ≡ fits_older (heads_at l.s l.l 0 l.l.entries)

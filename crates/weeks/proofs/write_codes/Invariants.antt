@@ -1,5 +1,5 @@
 -- `weeks::write_codes` meets its contract. The loop's invariant: with the codes from i on the result is what it is to be.
-use Rattle.std.proofs.Common.{◌≡◌, ◌+◌, ◌-◌, ◌≤◌, length}
+use Rattle.std.proofs.Common.{◌≡◌, ◌+◌, ◌-◌}
 use lib.Seq.{sets}
 use Rattle.format.specs.Entry.{codes_of}
 use Rattle.format.specs.Older.{older_entries}
@@ -7,8 +7,5 @@ use Rattle.weeks.specs.Heads.{heads_at}
 use Rattle.weeks.proofs.write_codes.Given as goal
 
 abbrev pub invariant-loop-i : goal.invariant-loop-i
-invariant-loop-i l = (l.i ≤ l.n) × (length l.res ≡ length l.initial.res)
-    × (sets l.res (8 + l.i) (codes_of (older_entries (heads_at l.s l.l l.i (l.n - l.i)))) ≡ sets l.initial.res 8 (codes_of (older_entries (heads_at l.s l.l 0 l.n))))
-
-abbrev pub decreases-loop-i : goal.decreases-loop-i
-decreases-loop-i l = l.n - l.i
+invariant-loop-i l =
+    sets l.res (8 + l.i) (codes_of (older_entries (heads_at l.s l.l l.i (l.l.entries - l.i)))) ≡ sets l.initial.res 8 (codes_of (older_entries (heads_at l.s l.l 0 l.l.entries)))

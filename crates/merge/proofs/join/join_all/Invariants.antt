@@ -2,13 +2,9 @@
 use Rattle.merge.specs.Join.{join_in}
 use Rattle.registry.specs.Places.{rows_in}
 use Rattle.walk_state.specs.Writing.{progress}
-use lib.ListN.{length}
+use Prim.Native.Nat.{◌-◌}
 use mathlib.Core.Path.{◌≡◌}
 use Rattle.merge.proofs.join.join_all.Given as goal
 
-abbrev pub invariant-loop-left : goal.invariant-loop-left
-invariant-loop-left l = (join_in l.s l.d (rows_in l.places l.count) l.t l.e l.left (progress l.w l.area) ≡ join_in l.s l.d (rows_in l.places l.count) l.t l.e l.n (progress l.initial.w l.initial.area))
-    × (length l.area ≡ length l.initial.area)
-
-abbrev pub decreases-loop-left : goal.decreases-loop-left
-decreases-loop-left l = l.left
+abbrev pub invariant-loop : goal.invariant-loop
+invariant-loop l = join_in l.s l.d (rows_in l.places l.count) l.t l.e (l.n - l.counter) (progress l.w l.area) ≡ join_in l.s l.d (rows_in l.places l.count) l.t l.e l.n (progress l.initial.w l.initial.area)

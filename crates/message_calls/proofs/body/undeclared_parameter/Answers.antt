@@ -1,13 +1,13 @@
 -- `message_calls::body::undeclared_parameter` meets its contract.
 use mathlib.Core.Path.{refl}
-use mathlib.Core.List.{flatten}
 use Rattle.definition.specs.Messages.{open_messages}
 use Rattle.definition.specs.Text.{open_text}
 use Rattle.message_parts.specs.Names.{names_at}
+use Rattle.message_parts.specs.Write.{open_pieces}
 use Rattle.message_parts.proofs.Listing.{list_all}
 use Rattle.message_parts.proofs.Writing.{◌then◌, whole}
 use Rattle.message_calls.proofs.body.undeclared_parameter.Goals as goal
 
 pub returns : goal.returns
-unfolding open_text open_messages flatten
+unfolding open_text open_messages open_pieces
 returns c = whole (c.around-a.ensures then c.params_above.ensures) (rw (list_all (names_at c.args.s.now c.args.l c.args.params c.args.count)) refl)

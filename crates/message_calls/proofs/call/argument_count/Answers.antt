@@ -1,11 +1,11 @@
 -- `message_calls::call::argument_count` meets its contract.
 use mathlib.Core.Path.{refl}
-use mathlib.Core.List.{flatten}
 use Rattle.definition.specs.Messages.{open_messages}
 use Rattle.definition.specs.Text.{open_text}
+use Rattle.message_parts.specs.Write.{open_pieces}
 use Rattle.message_parts.proofs.Writing.{piece, ◌then◌, whole}
 use Rattle.message_calls.proofs.call.argument_count.Goals as goal
 
 pub returns : goal.returns
-unfolding open_text open_messages flatten
+unfolding open_text open_messages open_pieces
 returns c = whole (c.around-a.ensures then piece c.write_number-b.ensures then piece c.write_at-c.ensures then piece c.write_number.ensures) refl

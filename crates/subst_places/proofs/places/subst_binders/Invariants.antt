@@ -1,12 +1,13 @@
--- `subst_places::places::subst_binders` meets its contract. The loop's invariant: the items that are left give what all of them give.
+-- The loop of `subst_places::places::subst_binders`: the items that are left give what all of them give. Assumes nothing.
 use mathlib.Core.Path.{◌≡◌}
+use Prim.Native.Nat.{◌-◌}
 use lib.ListN.{length}
 use Rattle.walk_state.specs.Writing.{progress}
 use Rattle.subst_places.specs.Parameters.{tapes, items_in, binder_in}
 use Rattle.subst_places.proofs.places.subst_binders.Given as goal
 
-abbrev pub invariant-loop-left : goal.invariant-loop-left
-invariant-loop-left l = (items_in (binder_in (tapes l.def l.call l.args l.m) l.span) l.left (progress l.a l.buf) ≡ items_in (binder_in (tapes l.def l.call l.args l.m) l.span) l.initial.left (progress l.initial.a l.initial.buf)) × (length l.buf ≡ length l.initial.buf)
-
-abbrev pub decreases-loop-left : goal.decreases-loop-left
-decreases-loop-left l = l.left
+abbrev pub invariant-loop : goal.invariant-loop
+invariant-loop l =
+    (items_in (binder_in (tapes l.def l.call l.args l.m) l.span) (l.count - l.counter) (progress l.a l.buf)
+    ≡ items_in (binder_in (tapes l.def l.call l.args l.m) l.span) l.count (progress l.initial.a l.initial.buf))
+    × (length l.buf ≡ length l.initial.buf)

@@ -1,8 +1,0 @@
--- `area::put_text` meets its contract.
-use Rattle.std.proofs.Common.{refl, ◌∙◌}
-use Rattle.area.specs.Area.{put_text_in}
-use Rattle.area.proofs.put_text.Goals as goal
-
-pub returns : goal.returns
-unfolding put_text_in
-returns c = c.append_run.ensures ∙ rw c.value_bytes.ensures refl

@@ -1,6 +1,0 @@
--- `neukolja::neukolja_profile` meets its contract.
-use Rattle.neukolja.proofs.WordsWith.{words_with_lem}
-use Rattle.neukolja.proofs.neukolja_profile.Goals as goal
-
-pub returns : goal.returns
-returns c = words_with_lem _ _ _ _ _ c.write_words.ensures c.profile.ensures
