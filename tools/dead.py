@@ -26,6 +26,8 @@ def main():
                 declared.append((path, m[1]))
             # a line that begins with a name declares it or is a clause of it
             used.update(set(tokens[1:]) - set(tokens[:1]))
+            # an attribute names lemmas by their paths
+            used.update(part for token in tokens for part in token.split('::')[1:])
     for path, name in declared:
         if not used[name]:
             print(path, name)
