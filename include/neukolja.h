@@ -10,11 +10,11 @@
  * negations. The largest figures hold of the tape so rewritten too, which has three entries more for each 2 and nests two levels
  * deeper at each, and so do sizes, charges and messages. No result holds a 2.
  *
- * Stack: the walks recurse as deep as tapes nest. Measured at the deepest inputs on x86-64 (`bench stack`): neukolja_check 78,279
- * bytes, neukolja_registry 15,567, neukolja_check_library 82,695, neukolja_check_at 82,567, neukolja_merge 43,319,
- * neukolja_substitute 124,119, neukolja_expand 238,055, neukolja_preview 250,375, neukolja_judge 275,575,
- * neukolja_older 22,575, neukolja_profile 22,463, neukolja_provider 9,967, neukolja_argument_to_term 10,015,
- * neukolja_term_to_argument 10,111, neukolja_sheet_open 15,679, neukolja_sheet_next 238,039. A linker script or a thread must
+ * Stack: the walks recurse as deep as tapes nest. Measured at the deepest inputs on x86-64 (`bench stack`): neukolja_check 63,863
+ * bytes, neukolja_registry 17,655, neukolja_check_library 70,311, neukolja_check_at 70,215, neukolja_merge 45,327,
+ * neukolja_substitute 93,447, neukolja_expand 167,991, neukolja_preview 180,311, neukolja_judge 205,511,
+ * neukolja_older 22,599, neukolja_profile 22,583, neukolja_provider 10,023, neukolja_argument_to_term 10,071,
+ * neukolja_term_to_argument 10,167, neukolja_sheet_open 17,767, neukolja_sheet_next 167,975. A linker script or a thread must
  * provide it, with what the caller itself needs and some room on top: nothing checks it while a function runs.
  *
  * A function keeps nothing between calls, so several threads may call it at once, each with buffers of its own. What a call

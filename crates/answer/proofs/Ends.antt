@@ -22,9 +22,9 @@ use Rattle.area.proofs.Tape.{finish_fits}
 use Rattle.messages.specs.Reason.{number_of, message_of}
 use Rattle.messages.specs.Write.{filled}
 use Rattle.messages.specs.declared.Refused.{Refused}
-use Rattle.walk_state.specs.declared.writing.State.{State}
-use Rattle.walk_state.specs.declared.writing.Walk.{Walk}
-use Rattle.walk_state.specs.declared.writing.Walk.TheVariants as walk
+use Rattle.walk_state.specs.Walk.{State}
+use Rattle.walk_state.specs.Walk.{Walk}
+use Rattle.walk_state.specs.Walk as walk
 use Rattle.answer.specs.Matches.{answer_with, buffers, ended, AnswersRefusal, VerdictMatches, AnswersVerdict, OutcomeMatches, AnswersOutcome}
 use Rattle.answer.specs.declared.Answer as code
 

@@ -27,7 +27,7 @@ use Rattle.tape.specs.Accept.{accept_named, accept_of}
 use Rattle.tape.specs.Header.{fault_number}
 use Rattle.tape.specs.declared.layout.Layout.{Layout}
 use Rattle.tape.proofs.Acceptance.{RootOf, RootNamed, Answers, answers_2, answers_3, answers_tape, answers}
-use Rattle.walk_state.specs.declared.writing.Walk.{Walk}
+use Rattle.walk_state.specs.Walk.{Walk}
 use Rattle.answer.specs.Matches.{ended, message_in, VerdictMatches, AnswersVerdict, OutcomeMatches, AnswersOutcome}
 use Rattle.answer.specs.Tapes.{after_first, on_first, accept_two}
 

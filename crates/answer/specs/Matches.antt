@@ -15,8 +15,8 @@ use Rattle.tape.specs.declared.layout.Layout.{Layout}
 use Rattle.area.specs.Area.{area_in, fits_area, Wrote}
 use Rattle.messages.specs.Reason.{number_of, message_of}
 use Rattle.messages.specs.declared.Refused.{Refused}
-use Rattle.walk_state.specs.declared.writing.Walk.{Walk}
-use Rattle.walk_state.specs.declared.writing.Walk.TheVariants as walk
+use Rattle.walk_state.specs.Walk.{Walk}
+use Rattle.walk_state.specs.Walk as walk
 use Rattle.answer.specs.declared.Answer.{Answer}
 
 -- ------------------------------------------------------------------ answers

@@ -6,14 +6,15 @@ ghost use Rattle.std.specs.Prelude.{[], ◌≡◌, length};
 ghost use Rattle.definition.specs.Outcome.{refusal, Outcome};
 ghost use Rattle.definition.specs.Answers.{long_buffers, message_alone, number_alone};
 ghost use Rattle.definition.specs.Older.{result_alone};
+ghost use Rattle.walk_state.specs.Writing.{came_to};
 ghost use Rattle.answer.specs.Matches.{answer_with, buffers, ended, AnswersRefusal, AnswersVerdict, AnswersOutcome};
 
 use area::finish;
 use buffer::zero;
 use messages::Refused;
 use nodes::Span;
-use tape::layout::Layout;
-use walk_state::writing::Walk;
+use tape::layout::Tape;
+use walk_state::writing::Cursor;
 
 pub mod tapes;
 
@@ -56,23 +57,21 @@ pub fn number_alone(
 }
 
 // A refusal of a walk. The names of its message stand on the definition's tape and the call's.
-pub fn refuse(
-    definition: &[u8],
-    d: Layout,
-    call: &[u8],
-    c: Layout,
+pub fn refuse<'a>(
+    definition: &Tape<'a>,
+    call: &Tape<'a>,
     refused: Refused,
     charged: u32,
     res: &mut [u8],
     work: &mut [u8],
     message: &mut [u8],
 ) -> Answer
-    ensures { AnswersRefusal definition.now d call.now c refused charged (buffers (length res.old) (length work.old) (length message.old)) (answer_with result res.new work.new message.new) }
+    ensures { AnswersRefusal definition.now.bytes.now definition.now.layout call.now.bytes.now call.now.layout refused charged (buffers (length res.old) (length work.old) (length message.old)) (answer_with result res.new work.new message.new) }
 {
     let span = refused.span;
     let reason = refused.reason;
     let number = messages::number(reason);
-    let message_length = messages::write(definition, d, call, c, reason, message);
+    let message_length = messages::write(definition, call, reason, message);
     number_alone(number, charged, res, work, &mut []);
     Answer {
         number,
@@ -107,38 +106,35 @@ pub fn result_written() -> Answer
 }
 
 // The answer of a verdict, of an operation that has one tape and a message buffer alone, and charges nothing.
-pub fn answer_verdict(
-    tape: &[u8],
-    l: Layout,
-    verdict: Result<(), Refused>,
-    message: &mut [u8],
-) -> Answer
-    ensures { AnswersVerdict tape.now l verdict (message_alone (length message.old)) (answer_with result [] [] message.new) }
+pub fn answer_verdict(tape: &Tape, verdict: Result<(), Refused>, message: &mut [u8]) -> Answer
+    ensures { AnswersVerdict tape.now.bytes.now tape.now.layout verdict (message_alone (length message.old)) (answer_with result [] [] message.new) }
 {
     match verdict {
         Ok(()) => number_alone(0, 0, &mut [], &mut [], message),
-        Err(r) => refuse(tape, l, tape, l, r, 0, &mut [], &mut [], message),
+        Err(r) => refuse(tape, tape, r, 0, &mut [], &mut [], message),
     }
 }
 
-// The answer of a walk whose output stands in the work buffer.
-pub fn answer_walk(
-    definition: &[u8],
-    d: Layout,
-    call: &[u8],
-    c: Layout,
-    w: Walk,
+// The answer of a walk whose output stands in the work buffer, which the cursor has.
+pub fn answer_walk<'a>(
+    definition: &Tape<'a>,
+    call: &Tape<'a>,
+    walked: Result<(), Refused>,
+    cursor: &mut Cursor,
     res: &mut [u8],
-    work: &mut [u8],
     message: &mut [u8],
 ) -> Answer
-    ensures { AnswersOutcome definition.now d call.now c w work.old (buffers (length res.old) (length work.old) (length message.old)) (answer_with result res.new work.new message.new) }
+    ensures same_slice { cursor.new.bytes.ghost_name ≡ cursor.old.bytes.ghost_name }
+    ensures answers { AnswersOutcome definition.now.bytes.now definition.now.layout call.now.bytes.now call.now.layout (came_to walked cursor.old).walk cursor.old.bytes.now (buffers (length res.old) (length cursor.old.bytes.now) (length message.old)) (answer_with result res.new cursor.new.bytes.now message.new) }
 {
-    match w {
-        Walk::Going(st) => {
-            finish(work, st.out, res);
-            number_alone(0, st.charged, &mut [], work, message)
+    let out = cursor.out;
+    let charged = cursor.charged;
+    let work = &mut *cursor.bytes;
+    match walked {
+        Ok(()) => {
+            finish(work, out, res);
+            number_alone(0, charged, &mut [], work, message)
         }
-        Walk::Refused(r, charged) => refuse(definition, d, call, c, r, charged, res, work, message),
+        Err(r) => refuse(definition, call, r, charged, res, work, message),
     }
 }

@@ -12,6 +12,8 @@ ghost use Rattle.definition.specs.Text.{decimal};
 ghost use Rattle.definition.specs.Answers.{padded};
 ghost use Rattle.buffer.specs.Buffer.{zeroed, message_in, write_in};
 
+pub mod message;
+
 // Writes `piece` into `s` from `at` on, as far as `s` reaches. The loop has one end, so that the compiler writes many bytes at once.
 #[tactic(auto, using(crate::proofs::Sets::sets_stop))]
 pub fn write(s: &mut [u8], at: usize, piece: &[u8])

@@ -52,13 +52,9 @@ fn expand<'a>(
         &mut message,
         &mut [],
     );
-    print(rt, case, " ")?;
-    print(rt, answer.number, " ")?;
-    print(rt, answer.span.start, " ")?;
-    print(rt, answer.span.end, " ")?;
-    print(rt, answer.charged, "\n")
-}
-
-fn print(rt: &impl Print, n: u32, behind: &str) -> io::Result<()> {
-    print!(rt; "{n}{behind}")
+    let span = answer.span;
+    println!(rt;
+        "{case} {} {} {} {}",
+        answer.number, span.start, span.end, answer.charged
+    )
 }

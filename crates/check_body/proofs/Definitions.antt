@@ -18,8 +18,7 @@ use Rattle.tape.specs.declared.layout.Place.{Place}
 use Rattle.tape.proofs.Located.{past, Inside}
 use Rattle.nodes.proofs.Placed.{ParamParts, parts_params, past_params, parts_body, parts_def}
 use Rattle.message_parts.specs.Names.{names_at}
-use Rattle.check_parts.specs.declared.Declared.{Declared}
-use Rattle.check_parts.specs.Names.{declared_in}
+use Rattle.check_parts.specs.Names.{Declaration, declared_in}
 use Rattle.answer.specs.Matches.{VerdictMatches}
 use Rattle.check_body.specs.Definition.{declaring, body_in, on_body, def_in, verdict_of}
 use Rattle.check_parts.proofs.Steps.{one_name}
@@ -39,7 +38,7 @@ module _ {s : List ℕ} {l : Layout} where
       let i = parts_params (q ∷ qs) h in
       one_name s l p (param_read i) (length qs) refl ∙ rw (i.spelled, names_right qs i.name.runs.first)
 
-module _ (s : List ℕ) (d : Declared) (ps : List MacroParam) (declared : declared_in s d ≡ names_of ps) where
+module _ (s : List ℕ) (d : Declaration) (ps : List MacroParam) (declared : declared_in s d ≡ names_of ps) where
   body_right : (b : MacroBody) (p : Place) → Inside s d.layout p (flat_body b) → deep_body node_weight b ≤ 64
       → Finds s d.layout (on_body s d (body_at s d.layout p)) (past (flat_body b) p) (check_body (names_of ps) b)
   unfolding body_in check_body deep_body

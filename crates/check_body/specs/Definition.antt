@@ -8,21 +8,21 @@ use Rattle.tape.specs.declared.layout.Layout.{Layout}
 use Rattle.tape.specs.declared.layout.Place.{Place}
 use Rattle.nodes.specs.declared.BodyNode.{BodyNode}
 use Rattle.nodes.specs.declared.BodyNode.TheVariants as body
-use Rattle.check_parts.specs.declared.Declared.{Declared}
+use Rattle.check_parts.specs.Names.{Declaration}
 use Rattle.walk_state.specs.Reading.{without_message_of, malformed_in}
 use Rattle.check_walk.specs.Walk.{walkers}
 
-abbrev pub declaring : Layout → Place → ℕ → Declared
+abbrev pub declaring : Layout → Place → ℕ → Declaration
 declaring l params count = record { layout = l; params = params; count = count }
 
 module _ (s : List ℕ) where
   -- a Cedar body passes unread; a value body's terms have the span 0..0
-  unfoldable pub body_in : Declared → BodyNode → Place → Result Place Refused
+  unfoldable pub body_in : Declaration → BodyNode → Place → Result Place Refused
   body_in d body.Cedar next = Ok next
   body_in d body.Condition next = (walkers s d 64).condition (Ok next)
   body_in d body.Value next = (walkers s d 64).term 0 (Ok next)
 
-  abbrev pub on_body : Declared → Result (BodyNode × Place) Refusal → Result Place Refused
+  abbrev pub on_body : Declaration → Result (BodyNode × Place) Refusal → Result Place Refused
   on_body d (Ok (node, next)) = body_in d node next
   on_body d (Err f) = without_message_of f
 

@@ -4,6 +4,7 @@
 ghost use Rattle.std.specs.Prelude.{[], ◌≡◌, length};
 ghost use Rattle.answer.specs.Matches.{answer_with};
 ghost use Rattle.definition.specs.Answers.{check_answer};
+ghost use Rattle.check_parts.specs.Names.{declaration};
 ghost use Rattle.check_body.specs.Definition.{body_in, def_in, verdict_of};
 
 use answer::{Answer, answer_verdict, refuse_number};
@@ -14,42 +15,42 @@ use grammar::codes::DEFINITION;
 use messages::Refused;
 use nodes::{BodyNode, Refusal, past_params, read_body, read_heading};
 use tape::accept::accept;
-use tape::layout::{Layout, Place};
+use tape::layout::{Place, Tape};
 
 // A Cedar body passes unread.
 #[tactic(auto, unfolding(crate::specs::Definition::body_in))]
-fn check_body(s: &[u8], d: Declared, node: BodyNode, next: Place) -> Result<Place, Refused>
-    ensures { result ≡ body_in s.now d node next }
+fn check_body(d: &Declared, node: BodyNode, next: Place) -> Result<Place, Refused>
+    ensures { result ≡ body_in d.now.tape.bytes.now (declaration d.now) node next }
 {
     match node {
         BodyNode::Cedar => Ok(next),
-        BodyNode::Condition => check_temporal_condition_body(64, s, d, next),
-        BodyNode::Value => check_temporal_value_body(64, s, d, next),
+        BodyNode::Condition => check_temporal_condition_body(64, d, next),
+        BodyNode::Value => check_temporal_value_body(64, d, next),
     }
 }
 
 // The definition that stands at a place: of a tape of its own, or of a registry's.
 #[tactic(auto, unfolding(crate::specs::Definition::def_in, nodes::specs::Node::heading_at, walk_state::specs::Reading::refused_in, walk_state::specs::Reading::without_message_of, nodes::specs::Node::span_of, nodes::specs::Node::refusal_of))]
-pub fn check_def(s: &[u8], l: Layout, p: Place) -> Result<Place, Refused>
-    ensures { result ≡ def_in s.now l p }
+pub fn check_def(tape: &Tape, p: Place) -> Result<Place, Refused>
+    ensures { result ≡ def_in tape.now.bytes.now tape.now.layout p }
 {
-    let (heading, params) = read_heading(s, l, p, code::DEFINITION)?;
+    let (heading, params) = read_heading(tape, p, code::DEFINITION)?;
     let count = heading.count;
-    let body = past_params(s, l, params, count).ok_or(Refusal::MALFORMED)?;
-    let (node, next) = read_body(s, l, body)?;
+    let body = past_params(tape, params, count).ok_or(Refusal::MALFORMED)?;
+    let (node, next) = read_body(tape, body)?;
     let d = Declared {
-        layout: l,
+        tape: *tape,
         params,
         count,
     };
-    check_body(s, d, node, next)
+    check_body(&d, node, next)
 }
 
 // The same without the place behind it.
-pub fn verdict(s: &[u8], l: Layout, p: Place) -> Result<(), Refused>
-    ensures { result ≡ verdict_of (def_in s.now l p) }
+pub fn verdict(tape: &Tape, p: Place) -> Result<(), Refused>
+    ensures { result ≡ verdict_of (def_in tape.now.bytes.now tape.now.layout p) }
 {
-    check_def(s, l, p)?;
+    check_def(tape, p)?;
     Ok(())
 }
 
@@ -59,12 +60,16 @@ pub fn check(definition: &[u8], message: &mut [u8]) -> Answer
     ensures { answer_with result [] [] message.new ≡ check_answer (length message.old) definition.now }
 {
     if message.len() < 2048 {
-        return refuse_number(1, message);
+        return refuse_number(numbers::SHORT_BUFFER, message);
     }
     match accept(definition, DEFINITION) {
-        Ok(l) => {
-            let found = verdict(definition, l, Place { at: 0, text: 0 });
-            answer_verdict(definition, l, found, message)
+        Ok(layout) => {
+            let tape = Tape {
+                bytes: definition,
+                layout,
+            };
+            let found = verdict(&tape, Place { at: 0, text: 0 });
+            answer_verdict(&tape, found, message)
         }
         Err(fault) => refuse_number(fault.number(), message),
     }

@@ -28,7 +28,8 @@ use Rattle.tape.specs.Pick.{pick}
 use Rattle.tape.specs.declared.layout.Layout.{Layout}
 use Rattle.messages.specs.declared.Refused as code
 use Rattle.answer.specs.Matches.{RefusalMatches, VerdictMatches}
-use Rattle.registry.specs.Places.{Row, and_then_in, origin, rows_from, index_at, build_at}
+use Rattle.registry.specs.Places.{and_then_in, origin, rows_from, index_at, build_at}
+use Rattle.registry.specs.declared.rows.Row.{Row}
 use Rattle.registry.proofs.Standing.{Indexed, indexed_nil, indexed_cons}
 use Rattle.registry.proofs.Verdicts.{build_matches}
 use Rattle.check_body.specs.Definition.{def_in, verdict_of}

@@ -10,7 +10,8 @@ use Rattle.tape.specs.declared.layout.Layout.{Layout}
 use Rattle.messages.specs.Reason.{number_of}
 use Rattle.messages.specs.declared.Refused as code
 use Rattle.answer.specs.Matches.{message_in, RefusalMatches}
-use Rattle.registry.specs.Places.{Row, and_then_in, index_at, build_at}
+use Rattle.registry.specs.Places.{and_then_in, index_at, build_at}
+use Rattle.registry.specs.declared.rows.Row.{Row}
 use Rattle.check_body.specs.Definition.{def_in, verdict_of}
 
 -- ------------------------------------------------------------------ the check of a row

@@ -2,13 +2,12 @@
 // on the registry's tape, at the places that its index has.
 #![tactic(auto)]
 
-ghost use Rattle.std.specs.Prelude.{◌≡◌, [], ◌/◌, length};
+ghost use Rattle.std.specs.Prelude.{◌≡◌, [], length};
 ghost use Rattle.format.specs.Entry.{le};
 ghost use Rattle.definition.specs.Answers.{number_alone, without_work};
 ghost use Rattle.definition.specs.Library.{library_answer, check_at_answer};
 ghost use Rattle.buffer.specs.Buffer.{message_in, write_in};
 ghost use Rattle.answer.specs.Matches.{answer_with, ended};
-ghost use Rattle.registry.specs.Places.{rows_in};
 ghost use Rattle.check_library.specs.Rows.{verdict_at, row_of, put_in, put_from, checked_in, listing, listed_in, AnswersList};
 
 use answer::{Answer, answer_verdict, number_alone, refuse, refuse_number};
@@ -16,25 +15,21 @@ use buffer::{value_bytes, write_at, zero_from};
 use check_body::verdict;
 use grammar::codes::DEFINITIONS;
 use messages::Refused;
-use registry::{check_names, index};
+use registry::{Index, Row, index};
 use tape::accept::accept;
-use tape::layout::{Layout, Place};
+use tape::layout::Tape;
 
 // ------------------------------------------------------------------ the check of a row
 
-// The definition at row i of the first `count`. Past the end nothing is refused.
-#[tactic(auto, using(crate::proofs::Steps::row_past, crate::proofs::Steps::row_short, crate::proofs::Steps::row_checked))]
-fn check_row(s: &[u8], l: Layout, places: &[usize], count: usize, i: usize) -> Result<(), Refused>
-    ensures { result ≡ verdict_at s.now l (rows_in places.now count) i }
+// The definition at row i of an index. Past the end nothing is refused.
+#[tactic(auto, using(crate::proofs::Steps::row_past, crate::proofs::Steps::row_checked))]
+fn check_row(index: &Index, i: usize) -> Result<(), Refused>
+    ensures { result ≡ verdict_at index.now.tape.bytes.now index.now.tape.layout index.now.rows.now i }
 {
-    if count <= i || places.len() / 2 <= i {
-        return Ok(());
+    match index.rows.get(i) {
+        Some(row) => verdict(&index.tape, row.place),
+        None => Ok(()),
     }
-    let p = Place {
-        at: places[2 * i] % 2048,
-        text: places[2 * i + 1],
-    };
-    verdict(s, l, p)
 }
 
 // ------------------------------------------------------------------ the list
@@ -71,45 +66,42 @@ fn put_verdict(list: &mut [u8], at: usize, i: usize, verdict: Result<(), Refused
     }
 }
 
-// The refused definitions among the first `count` rows, and where their list ends.
+// The refused definitions of an index, and where their list ends.
 #[tactic(auto, using(crate::proofs::Steps::put_turn, crate::proofs::Steps::put_end))]
-fn put_list(s: &[u8], l: Layout, places: &[usize], count: usize, list: &mut [u8]) -> usize
-    ensures { message_in list.new result ≡ put_from s.now l 0 (rows_in places.now count) (message_in list.old 0) }
+fn put_list(index: &Index, list: &mut [u8]) -> usize
+    ensures { message_in list.new result ≡ put_from index.now.tape.bytes.now index.now.tape.layout 0 index.now.rows.now (message_in list.old 0) }
 {
     let mut at: usize = 0;
-    for i in 0..count {
-        at = put_verdict(list, at, i, check_row(s, l, places, count, i));
+    for (i, row) in index.rows.iter().enumerate() {
+        at = put_verdict(list, at, i, verdict(&index.tape, row.place));
     }
     at
 }
 
-// 10 and 11, or the list and zeros behind it. The registry is indexed once.
-#[tactic(auto, using(crate::proofs::Steps::listed, crate::proofs::Steps::not_listed))]
-fn list_named(s: &[u8], l: Layout, places: &mut [usize], list: &mut [u8]) -> Result<(), Refused>
-    ensures { listing result list.new ≡ listed_in s.now l (length places.old / 2) list.old }
+// 10 and 11, or the list and zeros behind it. The registry, which has 255 definitions at the most, is indexed once.
+#[tactic(auto, using(crate::proofs::Steps::not_listed))]
+fn list_registry(tape: &Tape, list: &mut [u8]) -> Result<(), Refused>
+    ensures { listing result list.new ≡ listed_in tape.now.bytes.now tape.now.layout 255 list.old }
 {
-    let count = index(s, l, places);
-    check_names(s, l, places, count)?;
-    let end = put_list(s, l, places, count, list);
+    let mut rows = [Row::EMPTY; 255];
+    let count = index(tape, &mut rows);
+    let index = Index {
+        tape: *tape,
+        rows: &rows[..count],
+    };
+    index.check_names()?;
+    let end = put_list(&index, list);
     zero_from(list, end);
     Ok(())
 }
 
-// The rows of 255 definitions, as many as a registry can have.
-fn list_registry(s: &[u8], l: Layout, list: &mut [u8]) -> Result<(), Refused>
-    ensures { listing result list.new ≡ listed_in s.now l 255 list.old }
-{
-    let mut places = [0usize; 510];
-    list_named(s, l, &mut places, list)
-}
-
 // The list and the answer of an accepted registry.
-fn answer_list(registry: &[u8], l: Layout, res: &mut [u8], message: &mut [u8]) -> Answer
-    ensures { AnswersList registry.now l res.old (length message.old) (answer_with result res.new [] message.new) }
+fn answer_list(tape: &Tape, res: &mut [u8], message: &mut [u8]) -> Answer
+    ensures { AnswersList tape.now.bytes.now tape.now.layout res.old (length message.old) (answer_with result res.new [] message.new) }
 {
-    match list_registry(registry, l, res) {
-        Ok(()) => number_alone(0, 0, &mut [], &mut [], message),
-        Err(r) => refuse(registry, l, registry, l, r, 0, res, &mut [], message),
+    match list_registry(tape, res) {
+        Ok(()) => number_alone(numbers::DONE, 0, &mut [], &mut [], message),
+        Err(r) => refuse(tape, tape, r, 0, res, &mut [], message),
     }
 }
 
@@ -128,11 +120,17 @@ pub fn check_library(registry: &[u8], res: &mut [u8], message: &mut [u8]) -> Ans
     ensures { answer_with result res.new [] message.new ≡ library_answer (length res.old) (length message.old) registry.now }
 {
     if res.len() < 12296 || message.len() < 2048 {
-        return refuse_early(1, res, message);
+        return refuse_early(numbers::SHORT_BUFFER, res, message);
     }
     match accept(registry, DEFINITIONS) {
         Err(fault) => refuse_early(fault.number(), res, message),
-        Ok(l) => answer_list(registry, l, res, message),
+        Ok(layout) => {
+            let tape = Tape {
+                bytes: registry,
+                layout,
+            };
+            answer_list(&tape, res, message)
+        }
     }
 }
 
@@ -140,19 +138,17 @@ pub fn check_library(registry: &[u8], res: &mut [u8], message: &mut [u8]) -> Ans
 
 // 10 and 11, or the check of the definition at an index.
 #[tactic(auto, using(crate::proofs::Steps::named_checked, crate::proofs::Steps::named_refused))]
-fn check_named(s: &[u8], l: Layout, places: &mut [usize], i: usize) -> Result<(), Refused>
-    ensures { result ≡ checked_in s.now l (length places.old / 2) i }
+fn check_registry(tape: &Tape, i: usize) -> Result<(), Refused>
+    ensures { result ≡ checked_in tape.now.bytes.now tape.now.layout 255 i }
 {
-    let count = index(s, l, places);
-    check_names(s, l, places, count)?;
-    check_row(s, l, places, count, i)
-}
-
-fn check_registry(s: &[u8], l: Layout, i: usize) -> Result<(), Refused>
-    ensures { result ≡ checked_in s.now l 255 i }
-{
-    let mut places = [0usize; 510];
-    check_named(s, l, &mut places, i)
+    let mut rows = [Row::EMPTY; 255];
+    let count = index(tape, &mut rows);
+    let index = Index {
+        tape: *tape,
+        rows: &rows[..count],
+    };
+    index.check_names()?;
+    check_row(&index, i)
 }
 
 // The operation: after the same refusals what the check of that definition alone returns, its message too; past the end 0.
@@ -161,13 +157,16 @@ pub fn check_at(registry: &[u8], index: u32, message: &mut [u8]) -> Answer
     ensures { answer_with result [] [] message.new ≡ check_at_answer (length message.old) registry.now index }
 {
     if message.len() < 2048 {
-        return refuse_number(1, message);
+        return refuse_number(numbers::SHORT_BUFFER, message);
     }
     match accept(registry, DEFINITIONS) {
         Err(fault) => refuse_number(fault.number(), message),
-        Ok(l) => {
-            let found = check_registry(registry, l, index as usize);
-            answer_verdict(registry, l, found, message)
+        Ok(layout) => {
+            let tape = Tape {
+                bytes: registry,
+                layout,
+            };
+            answer_verdict(&tape, check_registry(&tape, index as usize), message)
         }
     }
 }

@@ -8,6 +8,7 @@ use Rattle.format.specs.Entry.{Text}
 use Rattle.definition.specs.Check.{contains}
 use Rattle.tape.specs.Pick.{pick}
 use Rattle.nodes.specs.Node.{on_value, expect_at, past_type_at, slot_at, within_at, name_at}
+use Rattle.tape.specs.declared.layout.Layout.{Layout}
 use Rattle.tape.specs.declared.layout.Place.{Place}
 use Rattle.nodes.specs.declared.Name.{Name}
 use Rattle.nodes.specs.declared.Sigil.{Sigil}
@@ -21,11 +22,20 @@ use Rattle.messages.specs.declared.Reason.TheVariants.{Undeclared, PlainIdentifi
 use Rattle.walk_state.specs.Reading.{after, items_in, refused_in, without_message_of, malformed_in, passed_in}
 use Rattle.check_parts.specs.declared.Declared.{Declared}
 
+-- How a definition's tape is laid out, and where its parameters stand: what the code's `Declared` has beside the slice.
+pub record Declaration : Type 0 where
+  pub layout : Layout
+  pub params : Place
+  pub count : ℕ
+
+abbrev pub declaration : Declared → Declaration
+declaration d = record { layout = d.tape.layout; params = d.params; count = d.count }
+
 -- "A plain Var or Name slot is 21."
 abbrev pub plain_in : Name → ℕ → Result Place Refused
 plain_in name span = refused_in span (PlainIdentifier name)
 
-module _ (s : List ℕ) (d : Declared) where
+module _ (s : List ℕ) (d : Declaration) where
   -- the declared names
   abbrev pub declared_in : List Text
   declared_in = names_at s d.layout d.params d.count

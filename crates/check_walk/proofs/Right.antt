@@ -61,9 +61,8 @@ use Rattle.messages.specs.declared.Reason.{Reason}
 use Rattle.messages.specs.declared.Reason.TheVariants.{Undeclared, PlainIdentifier, MacroInMacro}
 use Rattle.messages.specs.declared.Refused.{Refused}
 use Rattle.answer.specs.Matches.{RefusalMatches}
-use Rattle.check_parts.specs.declared.Declared.{Declared}
 use Rattle.walk_state.specs.Reading.{after, and_then_in, items_in, refused_in, passed_in, past_name_in}
-use Rattle.check_parts.specs.Names.{plain_in, declared_in, param_in, sigil_in, within_in, slot_in, binder_in, binders_in}
+use Rattle.check_parts.specs.Names.{Declaration, plain_in, declared_in, param_in, sigil_in, within_in, slot_in, binder_in, binders_in}
 use Rattle.check_walk.specs.Walk.{
   Walkers,
   call_in,
@@ -125,7 +124,7 @@ module _ {s : List ℕ} {l : Layout} where
 
 -- ------------------------------------------------------------------ what is declared
 
-module _ (s : List ℕ) (d : Declared) (names : List Text) (declared : declared_in s d ≡ names) where
+module _ (s : List ℕ) (d : Declaration) (names : List Text) (declared : declared_in s d ≡ names) where
   refuses_as : {end : Place} {x : Result Place Refused} {span : ℕ} (reason : Reason) {r : Refusal} → x ≡ refused_in span reason → number_of reason ≡ r.number → span ≡ r.span
       → message_of s d.layout s d.layout reason ≡ r.message → Finds s d.layout x end (some r)
   unfolding refused_in

@@ -4,10 +4,10 @@ use Prim.Native.Nat.{ℕ, zero, suc}
 use mathlib.Core.Path.{◌≡◌, refl}
 use mathlib.Core.List.{List}
 use Rattle.messages.specs.declared.Refused.{Refused}
-use Rattle.check_parts.specs.declared.Declared.{Declared}
+use Rattle.check_parts.specs.Names.{Declaration}
 use Rattle.check_walk.specs.Walk.{Walkers, fields_in, walkers}
 
-module _ (s : List ℕ) (d : Declared) where
+module _ (s : List ℕ) (d : Declaration) where
   pub condition_handed_on : (n : ℕ) (r : Refused) → (walkers s d n).condition (Err r) ≡ Err r
   unfolding walkers
   condition_handed_on zero r = refl

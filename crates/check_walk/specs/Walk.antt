@@ -16,7 +16,6 @@ use Rattle.nodes.specs.declared.TermNode.TheVariants as term
 use Rattle.nodes.specs.declared.AggNode.{AggNode}
 use Rattle.nodes.specs.declared.AggNode.TheVariants as agg
 use Rattle.messages.specs.declared.Reason.TheVariants.{MacroInMacro}
-use Rattle.check_parts.specs.declared.Declared.{Declared}
 use Rattle.walk_state.specs.Reading.{
   after,
   and_then_in,
@@ -28,7 +27,7 @@ use Rattle.walk_state.specs.Reading.{
   passed_in,
   past_name_in,
 }
-use Rattle.check_parts.specs.Names.{plain_in, param_in, sigil_in, within_in, slot_in, binder_in, binders_in}
+use Rattle.check_parts.specs.Names.{Declaration, plain_in, param_in, sigil_in, within_in, slot_in, binder_in, binders_in}
 
 -- the walkers one level down
 pub record Walkers : Type 0 where
@@ -45,7 +44,7 @@ unfoldable pub behind_in : List ℕ → Layout → Place → Result Place Refuse
 behind_in s l left (Ok p) = Ok p
 behind_in s l left (Err r) = passed_in (skip_at s l left grammar.condition)
 
-module _ (s : List ℕ) (d : Declared) where
+module _ (s : List ℕ) (d : Declaration) where
   -- a field's term
   abbrev pub field_in : Walkers → ℕ → Result Place Refused → Result Place Refused
   field_in W span w = W.term span (past_name_in s d.layout w)

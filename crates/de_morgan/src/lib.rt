@@ -7,7 +7,6 @@
 
 ghost use Rattle.std.specs.Prelude.{◌≡◌, ◌&&◌, [], ◌+◌, ◌*◌, ◌≤◌, eqb, length, drop};
 ghost use Rattle.format.specs.Macro.{tally};
-ghost use Rattle.tape.specs.Layouts.{Held};
 ghost use Rattle.tape.specs.Ors.{coded, ors_from, ors_in};
 ghost use Rattle.tape.specs.Scan.{skip_at};
 ghost use Rattle.de_morgan.specs.Rewritten.{begins_at, right_of, heads_from, put_head, put_heads, tape_in, rewritten_in, rewritten_layout, SideBegun, EntryPut, SideAdded};
@@ -16,7 +15,8 @@ use buffer::{value_bytes, write, write_size};
 use grammar::code;
 use grammar::codes::CONDITION;
 use grammar::kind::text_width;
-use tape::layout::{Layout, Place, code_at, holds, of_tape, text_behind, value_at};
+use tape::held::HeldTape;
+use tape::layout::{Layout, Place, Tape, of_tape, text_behind};
 use tape::ors::count_held;
 use tape::part::part_of;
 use tape::scan::skip;
@@ -58,7 +58,7 @@ fn begins(sides: &[u64], at: usize) -> bool
 }
 
 // The top of the list, and where the next entry goes.
-#[derive(Clone, Copy)]
+#[derive(Clone, Copy, Debug, PartialEq, Eq)]
 struct Begun {
     top: usize,
     put: usize,
@@ -83,10 +83,10 @@ fn begin_side(out: &mut [u8], n: usize, put: usize, sides: &[u64], top: usize, a
 
 // Where the right side of an Or begins whose left side stands at a place. At most 21 Ors stand on a path, since each weighs 3 in the
 // nesting, and so each entry is skipped 21 times at the most.
-fn right_side(s: &[u8], l: Layout, left: Place) -> usize
-    ensures { result ≡ right_of (skip_at s.now l left 1) }
+fn right_side(tape: &Tape, left: Place) -> usize
+    ensures { result ≡ right_of (skip_at tape.now.bytes.now tape.now.layout left 1) }
 {
-    let Some(p) = skip(s, l, left, CONDITION) else {
+    let Some(p) = skip(tape, left, CONDITION) else {
         return 0;
     };
     p.at
@@ -94,22 +94,14 @@ fn right_side(s: &[u8], l: Layout, left: Place) -> usize
 
 // Adds the right side that an entry brings, if it is an Or, and answers the new top. Its left side stands at `next`.
 #[tactic(auto, using(crate::proofs::Sides::side_stored), unfolding(crate::specs::Rewritten::sides_with, format::specs::Limits::weigh))]
-fn add_side(
-    sides: &mut [u64],
-    top: usize,
-    s: &[u8],
-    l: Layout,
-    code: u8,
-    value: u64,
-    next: Place,
-) -> usize
+fn add_side(sides: &mut [u64], top: usize, tape: &Tape, code: u8, value: u64, next: Place) -> usize
     requires { (code ≡ 2 → 2 ≤ top) × (top ≤ length sides.old) }
-    ensures { SideAdded s.now l code value next sides.old top result sides.new }
+    ensures { SideAdded tape.now.bytes.now tape.now.layout code value next sides.old top result sides.new }
 {
     if code != code::OR {
         return top;
     }
-    let right = right_side(s, l, next);
+    let right = right_side(tape, next);
     sides[top - 1] = value;
     sides[top - 2] = right as u64;
     top - 2
@@ -117,61 +109,76 @@ fn add_side(
 
 // Puts codes and values of what the entries of a layout become. `sides` has room for two numbers of each Or.
 #[tactic(auto, using(crate::proofs::Among::or_left), unfolding(crate::specs::Rewritten::heads_from, crate::specs::Rewritten::put_heads))]
-fn put_heads(out: &mut [u8], n: usize, sides: &mut [u64], s: &[u8], l: Layout)
-    requires { (n ≤ 1024) × Held s.now l × (2 * ors_from s.now l 0 ≤ length sides.old) }
-    ensures { out.new ≡ put_heads n 0 (heads_from s.now l l.entries 0 0 []) out.old }
+fn put_heads(out: &mut [u8], n: usize, sides: &mut [u64], held: &HeldTape)
+    requires { (n ≤ 1024) × (2 * ors_from held.now.tape.bytes.now held.now.tape.layout 0 ≤ length sides.old) }
+    ensures { out.new ≡ put_heads n 0 (heads_from held.now.tape.bytes.now held.now.tape.layout held.now.tape.layout.entries 0 0 []) out.old }
 {
+    let tape = &held.tape;
     let mut text = 0;
     let mut top = sides.len();
     let mut put = 0;
-    for at in 0..l.entries {
+    for at in 0..tape.layout.entries {
         let begun = begin_side(out, n, put, sides, top, at);
-        let code = code_at(s, l, at);
-        let value = value_at(s, l, at);
-        text = text_behind(l.size, text, text_width(code, value));
+        let code = held.code_at(at);
+        let value = held.value_at(at);
+        text = text_behind(tape.layout.size, text, text_width(code, value));
         put = put_entry(out, n, begun.put, code, value);
         let next = Place { at: at + 1, text };
-        top = add_side(sides, begun.top, s, l, code, value, next);
+        top = add_side(sides, begun.top, tape, code, value, next);
     }
 }
 
 // Each Or becomes four entries, so 1,024 entries come of 256 Ors at the most.
-fn put_all(out: &mut [u8], n: usize, s: &[u8], l: Layout)
-    requires { (n ≤ 1024) × Held s.now l × (ors_from s.now l 0 ≤ 256) }
-    ensures { out.new ≡ put_heads n 0 (heads_from s.now l l.entries 0 0 []) out.old }
+fn put_all(out: &mut [u8], n: usize, held: &HeldTape)
+    requires { (n ≤ 1024) × (ors_from held.now.tape.bytes.now held.now.tape.layout 0 ≤ 256) }
+    ensures { out.new ≡ put_heads n 0 (heads_from held.now.tape.bytes.now held.now.tape.layout held.now.tape.layout.entries 0 0 []) out.old }
 {
     let mut sides = [0u64; 512];
-    put_heads(out, n, &mut sides, s, l);
+    put_heads(out, n, &mut sides, held);
 }
 
 // Writes sizes, codes and values, and the text.
-fn write_tape(out: &mut [u8], n: usize, s: &[u8], l: Layout)
-    requires { (n ≤ 1024) × Held s.now l × (ors_from s.now l 0 ≤ 256) }
-    ensures { out.new ≡ tape_in s.now l n out.old }
+fn write_tape(out: &mut [u8], n: usize, held: &HeldTape)
+    requires { (n ≤ 1024) × (ors_from held.now.tape.bytes.now held.now.tape.layout 0 ≤ 256) }
+    ensures { out.new ≡ tape_in held.now.tape.bytes.now held.now.tape.layout n out.old }
 {
+    let tape = &held.tape;
     write_size(out, 0, n);
-    write_size(out, 4, l.size);
-    put_all(out, n, s, l);
-    write(out, 8 + 9 * n, part_of(s, l.text, l.size));
+    write_size(out, 4, tape.layout.size);
+    put_all(out, n, held);
+    write(
+        out,
+        8 + 9 * n,
+        part_of(tape.bytes, tape.layout.text, tape.layout.size),
+    );
 }
 
 // Writes the rewritten tape at the front of `out`, as far as it reaches, and answers its layout. Where the slice does not hold the
 // layout, or the tape would have more than 1,024 entries, both of which acceptance rules out, nothing is written, and the layout has no
 // entry.
 #[tactic(auto, using(tape::proofs::Counting::ors_most))]
-pub fn rewrite(s: &[u8], l: Layout, out: &mut [u8]) -> Layout
-    ensures layout { result ≡ rewritten_layout s.now l }
-    ensures bytes { out.new ≡ rewritten_in s.now l out.old }
+pub fn rewrite(tape: &Tape, out: &mut [u8]) -> Layout
+    ensures layout { result ≡ rewritten_layout tape.now.bytes.now tape.now.layout }
+    ensures bytes { out.new ≡ rewritten_in tape.now.bytes.now tape.now.layout out.old }
 {
-    if !holds(s, l) {
+    let Some(held) = tape.held() else {
         return of_tape(0, 0);
-    }
-    let n = l.entries + 3 * count_held(s, l);
+    };
+    let n = tape.layout.entries + 3 * count_held(&held);
     if 1024 < n {
         return of_tape(0, 0);
     }
-    write_tape(out, n, s, l);
-    of_tape(n, l.size)
+    write_tape(out, n, &held);
+    of_tape(n, tape.layout.size)
+}
+
+// The same, and the tape that was written.
+pub fn rewritten_in<'a>(tape: &Tape, out: &'a mut [u8]) -> Tape<'a>
+    ensures layout { result.layout ≡ rewritten_layout tape.now.bytes.now tape.now.layout }
+    ensures bytes { result.bytes.now ≡ rewritten_in tape.now.bytes.now tape.now.layout out.old }
+{
+    let layout = rewrite(tape, out);
+    Tape { bytes: out, layout }
 }
 
 // Whether no code is a 2. Each is looked at, found or not, so that the compiler takes many at once.
@@ -187,20 +194,15 @@ fn none_among(codes: &[u8]) -> bool
 }
 
 // Whether no entry of a layout is an Or.
-pub fn none_on(s: &[u8], l: Layout) -> bool
-    ensures { result ≡ eqb (ors_in s.now l) 0 }
+pub fn none_on(tape: &Tape) -> bool
+    ensures { result ≡ eqb (ors_in tape.now.bytes.now tape.now.layout) 0 }
 {
-    if !holds(s, l) {
-        return true;
-    }
-    let start = l.codes;
-    let end = start + l.entries;
-    none_among(&s[start..end])
+    tape.held().is_none_or(|held| none_among(held.codes()))
 }
 
 // Whether no Or stands on either of two tapes, so that each is its own rewriting.
-pub fn without_or(s: &[u8], d: Layout, t: &[u8], c: Layout) -> bool
-    ensures { result ≡ (eqb (ors_in s.now d) 0 && eqb (ors_in t.now c) 0) }
+pub fn without_or(s: &Tape, t: &Tape) -> bool
+    ensures { result ≡ (eqb (ors_in s.now.bytes.now s.now.layout) 0 && eqb (ors_in t.now.bytes.now t.now.layout) 0) }
 {
-    none_on(s, d) && none_on(t, c)
+    none_on(s) && none_on(t)
 }

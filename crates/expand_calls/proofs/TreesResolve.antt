@@ -28,7 +28,8 @@ use Rattle.nodes.proofs.Entries.{is_expected}
 use Rattle.nodes.proofs.Placed.{parts_call, parts_def}
 use Rattle.tape.proofs.Roots.{few_params_lem as few-params-of, nesting_64}
 use Rattle.format.proofs.Tests.{and_left, and_right}
-use Rattle.registry.specs.Places.{Row, key_of, end_of, get_at}
+use Rattle.registry.specs.declared.rows.Row.{Row}
+use Rattle.registry.specs.Places.{key_of, end_of, get_at}
 use Rattle.registry.proofs.Standing.{Indexed, indexed_nil, indexed_cons, Ended, ended_nil, ended_cons, other_key}
 use Rattle.subst_call.specs.Front.{on_macro, macro_from}
 use Rattle.subst_call.proofs.TreesFront.{kind_of, def_head, params, called, macro_from_lem}

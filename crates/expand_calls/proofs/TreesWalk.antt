@@ -17,7 +17,7 @@ use Rattle.area.specs.Area.{Area, Within}
 use Rattle.messages.specs.declared.Refused.{Refused}
 use Rattle.answer.specs.Matches.{RefusalMatches}
 use Rattle.walk_state.specs.Writing.{state}
-use Rattle.walk_state.specs.declared.writing.Walk.TheVariants as walk
+use Rattle.walk_state.specs.Walk as walk
 use Rattle.subst_places.specs.Parameters.{behind_in}
 use Rattle.subst_places.proofs.TreesWalk.{Written, rewritten}
 use Rattle.expand_calls.specs.Output.{Reads, Progress, progress}

@@ -22,9 +22,9 @@ use Rattle.walk_state.specs.Writing as one
 use Rattle.walk_state.specs.Writing.{state}
 use Rattle.subst_call.specs.Front.{on_macro, macro_from, refuse_too_large_in, call_in}
 use Rattle.subst_call.specs.declared.Macro.{Macro}
-use Rattle.walk_state.specs.declared.writing.State.{State}
-use Rattle.walk_state.specs.declared.writing.Walk.{Walk}
-use Rattle.walk_state.specs.declared.writing.Walk.TheVariants as walk
+use Rattle.walk_state.specs.Walk.{State}
+use Rattle.walk_state.specs.Walk.{Walk}
+use Rattle.walk_state.specs.Walk as walk
 use Rattle.expand_calls.specs.Output.{Reads, Progress, progress, after, on_work}
 
 -- ------------------------------------------------------------------ the macro that is called

@@ -1,6 +1,6 @@
 -- The state of an expansion with the two slices that it writes to, and the condition's own entries in its output.
 -- Assumes nothing.
-use Rattle.std.specs.Prelude.{ℕ, List, [], ◌∷◌, get_or, Result, Ok, Err}
+use Rattle.std.specs.Prelude.{◌≡◌, ℕ, List, [], ◌∷◌, get_or, length, Result, Ok, Err}
 use Rattle.grammar.specs.Grammar as grammar
 use Rattle.nodes.specs.Node.{by_code, on_entry, on_value, entry_at, expect_at}
 use Rattle.tape.specs.Scan.{skip_at}
@@ -8,16 +8,17 @@ use Rattle.tape.specs.declared.layout.Layout.{Layout}
 use Rattle.tape.specs.declared.layout.Place.{Place}
 use Rattle.area.specs.Area.{area_in}
 use Rattle.messages.specs.declared.Refused.{Refused}
-use Rattle.registry.specs.Places.{Row, rows_in}
+use Rattle.registry.specs.declared.rows.Row.{Row}
 use Rattle.walk_state.specs.Writing as one
 use Rattle.walk_state.specs.Writing.{state, going, without_message_at}
 use Rattle.subst_state.specs.Output.{copy_in}
 use Rattle.subst_places.specs.Refines.{fold_in}
-use Rattle.walk_state.specs.declared.writing.State.{State}
-use Rattle.walk_state.specs.declared.writing.Walk.{Walk}
-use Rattle.walk_state.specs.declared.writing.Walk.TheVariants as walk
+use Rattle.walk_state.specs.Walk.{State}
+use Rattle.walk_state.specs.Walk.{Walk}
+use Rattle.walk_state.specs.Walk as walk
 use Rattle.walk_state.specs.Reading.{passed_in}
-use Rattle.expand_calls.specs.declared.output.Context.{Context}
+use Rattle.walk_state.specs.declared.writing.Cursor.{Cursor}
+use Rattle.expand_calls.specs.declared.output.Expansion.{Expansion}
 
 -- what an expansion reads: the registry's tape, where its definitions stand, the condition's tape, how the two are laid out, the
 -- budget's limit, and the file number
@@ -30,15 +31,14 @@ pub record Reads : Type 0 where
   pub limit : ℕ
   pub file : ℕ
 
--- the table has two numbers for each definition
-abbrev pub reads : List ℕ → List ℕ → List ℕ → Context → Reads
-reads registry table condition x =
+abbrev pub reads_of : Expansion → Reads
+reads_of x =
     record {
-      registry = registry;
-      places = rows_in table x.count;
-      condition = condition;
-      definitions = x.registry;
-      layout = x.condition;
+      registry = x.registry.tape.bytes.now;
+      places = x.registry.rows.now;
+      condition = x.condition.bytes.now;
+      definitions = x.registry.tape.layout;
+      layout = x.condition.layout;
       limit = x.limit;
       file = x.file;
     }
@@ -53,6 +53,20 @@ pub record Progress : Type 0 where
 
 abbrev pub progress : Walk → List ℕ → List ℕ → Progress
 progress w work result = record { walk = w; work = work; result = result }
+
+-- the walk that is at a cursor, and what one came to that answers so
+abbrev pub going_at : Cursor → List ℕ → Progress
+going_at c result = progress (walk.Going (one.state_at c)) c.bytes.now result
+
+abbrev pub came_to : {A : Type 0} → Result A Refused → Cursor → List ℕ → Progress
+came_to (Ok a) c result = going_at c result
+came_to (Err r) c result = progress (walk.Refused r c.charged) c.bytes.now result
+
+-- the work buffer is the one that was lent, and the walk came to X
+pub record Expands (c c' : Cursor) (r : Result Unit Refused) (result : List ℕ) (X : Progress) : Type 0 where
+  pub same_slice : c'.bytes.ghost_name ≡ c.bytes.ghost_name
+  pub same_length : length c'.bytes.now ≡ length c.bytes.now
+  pub expanded : came_to r c' result ≡ X
 
 -- goes on from the state, unless the walk is refused
 abbrev pub on_walk : (State → List ℕ → List ℕ → Progress) → List ℕ → List ℕ → Walk → Progress

@@ -3,45 +3,38 @@
 
 ghost use Rattle.std.specs.Prelude.{◌≡◌};
 ghost use Rattle.walk_state.specs.Writing as one;
-ghost use Rattle.expand_calls.specs.Output.{reads, progress};
-ghost use Rattle.expand_calls.specs.Calls.{resolve_in, condition_macro_in, value_macro_in, calls_value_in, above, apply_in, into_in, outcome_in};
+ghost use Rattle.expand_calls.specs.Output.{reads_of, going_at, Expands};
+ghost use Rattle.expand_calls.specs.Calls.{resolve_in, condition_macro_in, value_macro_in, calls_value_in, above, apply_in, outcome_in};
 
-use crate::output::Context;
-use area::{Writer, append_out, empty};
+use crate::output::Expansion;
+use area::{Writer, empty};
 use grammar::code;
 use grammar::codes::CALL;
 use messages::{Reason, Refused, refuse};
 use nodes::{BodyNode, Heading, expect, name_at, read_heading};
-use registry::get;
 use subst_call::{Macro, macro_from, refuse_too_large, substitute_call};
-use tape::layout::{Place, of_area};
-use walk_state::writing::{State, Walk};
+use tape::layout::Place;
+use walk_state::writing::Cursor;
 
 pub mod output;
 
 // The macro that a call names.
 #[tactic(auto, unfolding(crate::specs::Calls::resolve_in))]
-fn resolve(reg: &[u8], places: &[usize], cond: &[u8], x: Context, call: Heading) -> Option<Macro>
-    ensures { result ≡ resolve_in (reads reg.now places.now cond.now x) call }
+fn resolve(x: &Expansion, call: Heading) -> Option<Macro>
+    ensures { result ≡ resolve_in (reads_of x.now) call }
 {
-    let name = name_at(cond, x.condition, call.name);
-    let (head, params, end) = get(reg, x.registry, places, x.count, name)?;
-    macro_from(reg, x.registry, head, params, end)
+    let name = name_at(&x.condition, call.name);
+    let (head, params, end) = x.registry.get(name)?;
+    macro_from(&x.registry.tape, head, params, end)
 }
 
 // 30, 31 or 32, unless the call names a condition macro.
 #[tactic(auto, unfolding(crate::specs::Calls::condition_macro_in))]
-pub fn condition_macro(
-    reg: &[u8],
-    places: &[usize],
-    cond: &[u8],
-    x: Context,
-    call: Heading,
-) -> Result<Macro, Refused>
-    ensures { result ≡ condition_macro_in (reads reg.now places.now cond.now x) call }
+pub fn condition_macro(x: &Expansion, call: Heading) -> Result<Macro, Refused>
+    ensures { result ≡ condition_macro_in (reads_of x.now) call }
 {
     let name = call.name;
-    let Some(def) = resolve(reg, places, cond, x, call) else {
+    let Some(def) = resolve(x, call) else {
         return Err(refuse(call.span, Reason::UnknownMacro(name)));
     };
     match def.kind {
@@ -53,17 +46,11 @@ pub fn condition_macro(
 
 // 30, 31 or 33, unless the call names a value macro.
 #[tactic(auto, unfolding(crate::specs::Calls::value_macro_in))]
-pub fn value_macro(
-    reg: &[u8],
-    places: &[usize],
-    cond: &[u8],
-    x: Context,
-    call: Heading,
-) -> Result<Macro, Refused>
-    ensures { result ≡ value_macro_in (reads reg.now places.now cond.now x) call }
+pub fn value_macro(x: &Expansion, call: Heading) -> Result<Macro, Refused>
+    ensures { result ≡ value_macro_in (reads_of x.now) call }
 {
     let name = call.name;
-    let Some(def) = resolve(reg, places, cond, x, call) else {
+    let Some(def) = resolve(x, call) else {
         return Err(refuse(call.span, Reason::UnknownMacro(name)));
     };
     match def.kind {
@@ -75,16 +62,16 @@ pub fn value_macro(
 
 // Whether the condition at a place is a bare call of a value macro.
 #[tactic(auto, unfolding(crate::specs::Calls::calls_value_in))]
-pub fn calls_value(reg: &[u8], places: &[usize], cond: &[u8], x: Context, p: Place) -> bool
-    ensures { result ≡ calls_value_in (reads reg.now places.now cond.now x) p }
+pub fn calls_value(x: &Expansion, p: Place) -> bool
+    ensures { result ≡ calls_value_in (reads_of x.now) p }
 {
-    let Some((_, call)) = expect(cond, x.condition, p, code::CALL) else {
+    let Some((_, call)) = expect(&x.condition, p, code::CALL) else {
         return false;
     };
-    let Ok((head, _)) = read_heading(cond, x.condition, call, code::CALLED) else {
+    let Ok((head, _)) = read_heading(&x.condition, call, code::CALLED) else {
         return false;
     };
-    let Some(def) = resolve(reg, places, cond, x, head) else {
+    let Some(def) = resolve(x, head) else {
         return false;
     };
     matches!(def.kind, BodyNode::Value)
@@ -102,77 +89,54 @@ pub fn level_above(out: Writer) -> Writer
     empty(out.base)
 }
 
-// The substitution of a call that stands in the work buffer, into the area at the start of the result buffer. Its arguments stand
-// behind its 54, its name and its list.
+// The substitution of the call that stands in the cursor's area, into the area at the start of the slice that `made` has. Its arguments stand behind its 54, its
+// name and its list.
 #[tactic(auto, unfolding(crate::specs::Calls::apply_in))]
-fn apply<'a>(
-    reg: &'a [u8],
-    work: &'a [u8],
-    res: &mut [u8],
-    x: Context,
+fn apply(
+    x: &Expansion,
+    c: &Cursor,
     def: Macro,
     call: Heading,
-    filled: State,
-) -> Walk
-    ensures { one.progress result res.new ≡ apply_in reg.now x.registry x.limit x.file work.now def call filled res.old }
+    made: &mut Cursor,
+) -> Result<(), Refused>
+    ensures { one.Walks made.old made.new result (apply_in x.now.registry.tape.bytes.now x.now.registry.tape.layout x.now.limit x.now.file c.now.bytes.now def call (one.state_at c.now) made.old.bytes.now) }
 {
-    let o = filled.out;
     let first = Place {
         at: 3,
         text: call.name.size,
     };
-    let out = empty(0);
-    let area = of_area(o.base, o.n, o.t);
+    made.restart();
+    made.charged = c.charged;
     substitute_call(
-        reg,
-        x.registry,
-        work,
-        area,
+        &x.registry.tape,
+        &c.written(),
         x.limit,
         x.file,
         def,
         call,
         first,
-        filled.charged,
-        res,
-        out,
+        made,
     )
 }
 
-// What a call became, behind what its level holds already.
-#[tactic(auto, unfolding(crate::specs::Calls::into_in))]
-fn into_level(work: &mut [u8], res: &[u8], out: Writer, next: Place, w: Walk) -> Walk
-    ensures { progress result work.new res.now ≡ into_in out next work.old (one.progress w res.now) }
-{
-    let Walk::Going(made) = w else {
-        return w;
-    };
-    let out = append_out(work, out, res, made.out);
-    Walk::Going(State {
-        place: next,
-        out,
-        charged: made.charged,
-    })
-}
-
-// A call whose arguments are expanded, at the level above `out`: 3 if it is too large; then the substitution.
-#[tactic(auto, unfolding(crate::specs::Calls::outcome_in))]
+// A call whose arguments are expanded, at the level above `out`: 3 if it is too large; then the substitution, whose outcome is
+// appended behind what its level holds already.
+#[tactic(auto, unfolding(crate::specs::Calls::outcome_in, crate::specs::Calls::into_in))]
 pub fn outcome(
-    reg: &[u8],
-    work: &mut [u8],
+    x: &Expansion,
+    c: &mut Cursor,
     res: &mut [u8],
-    x: Context,
     def: Macro,
     call: Heading,
     out: Writer,
-    w: Walk,
-) -> Walk
-    ensures { progress result work.new res.new ≡ outcome_in reg.now x.registry x.limit x.file def call out (progress w work.old res.old) }
+) -> Result<(), Refused>
+    ensures { Expands c.old c.new result res.new (outcome_in x.now.registry.tape.bytes.now x.now.registry.tape.layout x.now.limit x.now.file def call out (going_at c.old res.old)) }
 {
-    let f = refuse_too_large(call.span, CALL, work, w);
-    let Walk::Going(filled) = f else {
-        return f;
-    };
-    let s = apply(reg, work, res, x, def, call, filled);
-    into_level(work, res, out, filled.place, s)
+    refuse_too_large(call.span, CALL, c)?;
+    let mut made = Cursor::new(res);
+    let applied = apply(x, c, def, call, &mut made);
+    c.charged = made.charged;
+    applied?;
+    c.append_out(out, &made);
+    Ok(())
 }

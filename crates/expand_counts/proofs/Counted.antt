@@ -36,7 +36,7 @@ use Rattle.tape.specs.declared.layout.Place.{Place}
 use Rattle.tape.proofs.Holding.{holding}
 use Rattle.tape.proofs.Located.{past, past_append, Inside, inside_front, inside_back, inside_next, Alone}
 use Rattle.tape.proofs.Runs.{place}
-use Rattle.registry.specs.Places.{Row}
+use Rattle.registry.specs.declared.rows.Row.{Row}
 use Rattle.registry.proofs.Standing.{Indexed}
 use Rattle.definition.specs.Calls.{calls_condition, calls_operand, calls_agg, calls_call, calls_arg, calls_args}
 use Rattle.definition.specs.Counts.{add_calls}

@@ -20,7 +20,7 @@ use Rattle.tape.specs.declared.layout.Place.{Place}
 use Rattle.tape.proofs.Located.{past, past_append, past_at, Inside, inside_front, inside_back, inside_next, inside_skip}
 use Rattle.tape.proofs.Runs.{run_code, run_value}
 use Rattle.tape.proofs.Trees.{passes_term}
-use Rattle.registry.specs.Places.{Row}
+use Rattle.registry.specs.declared.rows.Row.{Row}
 use Rattle.expand_counts.specs.Counting.{passing, few, rest_of_term, over_at, brought_by, passed_at, counted_at, count_from}
 use Rattle.expand_counts.specs.declared.Passing.{Passing}
 

@@ -16,7 +16,8 @@ use Rattle.tape.specs.declared.layout.Layout.{Layout}
 use Rattle.tape.specs.declared.layout.Place.{Place}
 use Rattle.tape.proofs.Located.{past, Inside, inside_next}
 use Rattle.nodes.proofs.Entries.{is_expected, is_spelled}
-use Rattle.registry.specs.Places.{Row, key_of}
+use Rattle.registry.specs.Places.{key_of}
+use Rattle.registry.specs.declared.rows.Row.{Row}
 use Rattle.registry.proofs.Standing.{Indexed, indexed_nil, indexed_cons, other_key}
 use Rattle.definition.specs.Counts.{ceiling, calls_of, add_calls}
 use Rattle.expand_counts.specs.Counting.{name_behind_at, is_named, raised, raised_at}

@@ -1,17 +1,18 @@
 -- One law for each way a function of the crate returns, from what the code learnt to the definition that the contract cites.
 -- Assumes nothing.
 use Rattle.std.proofs.Common.{Some, None}
-use Prim.Native.Nat.{ℕ, zero, suc, ◌+◌, ◌*◌, ◌-◌, ◌/◌, ◌%◌, ◌≤◌, ◌<◌, min}
+use Prim.Native.Nat.{ℕ, zero, suc, ◌+◌, ◌-◌, ◌≤◌, ◌<◌, min}
 use native.Mathlib.Omega.{arith}
 use native.Mathlib.Nat.{sub-zero, add-zero}
 use native.Mathlib.Numerals.{add-one}
 use mathlib.Core.Path.{◌≡◌, refl, sym, ap, ◌∙◌}
-use mathlib.Core.List.{List, [], ◌∷◌, ◌++◌, append-nil}
+use mathlib.Core.List.{List, [], ◌∷◌, ◌++◌}
 use mathlib.Core.Bool.{Bool, true, false}
-use lib.Dec.{leb, eqb}
+use lib.Dec.{leb, ltb, eqb}
 use lib.ListN.{length, take, drop, get_or, set, take-append-drop, drop_of_length-le}
-use lib.Seq.{take_all, drop-cons, get_or-drop, append_snoc, take-suc-set, drop-set-lt, set-get_or}
-use borrow.Author.Tests.{leb-true, leb-false, lt-leb, le-leb, eq-eqb, ne_eqb}
+use lib.Seq.{take-nil, drop-cons, append_snoc, drop-set-lt, set-get_or}
+use Rattle.std.proofs.lemmas.List.{take_more_set}
+use borrow.Author.Tests.{lt-leb, le-leb, le-ltb, eq-eqb, ne_eqb}
 use Rattle.format.specs.Entry.{Text}
 use Rattle.format.specs.Limits.{weigh}
 use Rattle.format.specs.Stands.{part}
@@ -23,11 +24,12 @@ use Rattle.tape.specs.Layouts.{holds, code_at, value_at, width_at, onward}
 use Rattle.tape.specs.declared.layout.Layout.{Layout}
 use Rattle.tape.specs.declared.layout.Place.{Place}
 use Rattle.tape.proofs.Runs.{place}
-use Rattle.nodes.specs.Node.{expect_at, name_at}
-use Rattle.registry.specs.Places.{Row, origin, key_of, first_row, rows_in}
+use Rattle.nodes.specs.Node.{has_entry, entry_at, expect_at, name_at}
+use Rattle.registry.specs.Places.{origin, key_of}
+use Rattle.registry.specs.declared.rows.Row.{Row}
+use Rattle.registry.proofs.Steps.{empty_row}
 use Rattle.expand_counts.specs.Counting.{name_behind_at, is_named, raised, raised_at, passing, few, passed_at, counted_at, count_from, counted_in}
 use Rattle.expand_counts.specs.declared.Passing.{Passing}
-use Rattle.registry.proofs.Tables.{row_next, rows_done}
 use Rattle.nodes.proofs.Texts.{equal_texts}
 use lib.Pointwise.{pointwise}
 use Rattle.std.proofs.Common.{nat_eq}
@@ -42,89 +44,68 @@ module _ (s : List ℕ) (l : Layout) (p : Place) where
   unfolding name_behind_at
   name_missing q = rw (behind, q)
 
+  -- no entry stands so far on
+  pub name_outside : length s ≤ p.at → name_behind_at s l p ≡ []
+  unfolding name_behind_at expect_at entry_at has_entry
+  name_outside h = let far : ltb (l.codes + (p.at + 1)) (length s) ≡ false = le-ltb (l.codes + (p.at + 1)) (length s) (omega arith) in rw far
+
   pub name_read : {size : ℕ} {next : Place} → expect_at s l (place (p.at + 1) p.text) 40 ≡ Some (size, next)
       → name_behind_at s l p ≡ name_at s l (record { text = p.text; size = size })
   unfolding name_behind_at
   name_read {size} q = rw (behind, q) (ap (λ (t : ℕ). name_at s l (record { text = t; size = size })) (add-zero p.text))
 
--- a row of a table
-row_is : (places : List ℕ) (i : ℕ)
-    → first_row (drop (2 * i) places)
-    ≡ record { place = place (get_or places (2 * i) 0 % 2048) (get_or places (2 * i + 1) 0); key = get_or places (2 * i) 0 / 2048 }
-unfolding first_row
-row_is places i =
-    let zero_on : get_or (drop (2 * i) places) 0 0 ≡ get_or places (2 * i) 0 =
-    get_or-drop (2 * i) places 0 0 ∙ ap (λ (n : ℕ). get_or places n 0) (add-zero (2 * i)) in
-    rw (zero_on, get_or-drop (2 * i) places 1 0)
-
 -- the row of a definition, of which the name's key is known
-module _ (reg : List ℕ) (d : Layout) (places : List ℕ) (i : ℕ) (name : Text) {key : ℕ} (k : key ≡ key_of name) where
-  pub named_otherwise : (get_or places (2 * i) 0 / 2048 ≡ key → ⊥) → is_named reg d (first_row (drop (2 * i) places)) name ≡ false
+module _ (reg : List ℕ) (d : Layout) (r : Row) (name : Text) {key : ℕ} (k : key ≡ key_of name) where
+  pub named_otherwise : (r.key ≡ key → ⊥) → is_named reg d r name ≡ false
   unfolding is_named
-  named_otherwise h = rw (row_is places i, ← k, ne_eqb (get_or places (2 * i) 0 / 2048) key h)
+  named_otherwise h = rw (← k, ne_eqb r.key key h)
 
-  pub named_by : get_or places (2 * i) 0 / 2048 ≡ key
-      → is_named reg d (first_row (drop (2 * i) places)) name
-      ≡ pointwise nat_eq (name_behind_at reg d (place (get_or places (2 * i) 0 % 2048) (get_or places (2 * i + 1) 0))) name
+  pub named_by : r.key ≡ key → is_named reg d r name ≡ pointwise nat_eq (name_behind_at reg d r.place) name
   unfolding is_named
-  named_by h =
-      let p : Place = place (get_or places (2 * i) 0 % 2048) (get_or places (2 * i + 1) 0) in
-      rw (row_is places i, ← k, eq-eqb (get_or places (2 * i) 0 / 2048) key h) (sym (equal_texts (name_behind_at reg d p) name))
+  named_by h = rw (← k, eq-eqb r.key key h) (sym (equal_texts (name_behind_at reg d r.place) name))
 
 -- ------------------------------------------------------------------ counts
 
--- a count behind the row of its definition
-abbrev pub counted_row : List ℕ → Layout → List ℕ → (i : ℕ) → Text → ℕ → ℕ
-counted_row reg d places i name k = pick (is_named reg d (first_row (drop (2 * i) places)) name) (raised k) k
-
--- a count that is stored as it was
-pub same_count : (ks : List ℕ) (i : ℕ) → i < length ks → set ks i (get_or ks i 0) ≡ ks
-same_count ks i h = set-get_or ks i 0
-
--- the counts before i are done, and the rows that are left are those of the others
-module _ (reg : List ℕ) (d : Layout) (name : Text) (places ks : List ℕ) (i count : ℕ) where
-  left : List ℕ
-  left = take i ks ++ raised_at reg d (rows_in (drop (2 * i) places) (count - i)) name (drop i ks)
-
-  count_full : length ks ≤ i → left ≡ ks
-  unfolding raised_at left
-  count_full h =
-      rw (drop_of_length-le ks {i = i} h, none (rows_in (drop (2 * i) places) (count - i)), append-nil (take i ks)) (take_all i ks h)
-    where
-      none : (rs : List Row) → raised_at reg d rs name [] ≡ []
-      none [] = refl
-      none (r ∷ rs) = refl
-
-  pub count_done : min (min count (length places / 2)) (length ks) ≤ i
-      → take i ks ++ raised_at reg d (rows_in (drop (2 * i) places) (count - i)) name (drop i ks) ≡ ks
-  unfolding raised_at left
-  count_done h = go (leb (length ks) i) refl
-    where
-      go : (b : Bool) → leb (length ks) i ≡ b → left ≡ ks
-      go true e = count_full (leb-true (length ks) i e)
-      go false e =
-          let k : i < length ks = leb-false (length ks) i e in
-          rw (rows_done places count i (omega arith)) (take-append-drop i ks)
-
-  pub count_turn : i < min (min count (length places / 2)) (length ks)
-      → take i ks ++ raised_at reg d (rows_in (drop (2 * i) places) (count - i)) name (drop i ks)
-      ≡ take (i + 1) (set ks i (counted_row reg d places i name (get_or ks i 0)))
-      ++ raised_at reg d (rows_in (drop (2 * (i + 1)) places) (count - (i + 1))) name (drop (i + 1) (set ks i (counted_row reg d places i name (get_or ks i 0))))
+module _ (reg : List ℕ) (d : Layout) (name : Text) where
+  -- rows without counts
+  none_counted : (rs : List Row) → raised_at reg d rs name [] ≡ []
   unfolding raised_at
-  count_turn h =
-      let v : ℕ = counted_row reg d places i name (get_or ks i 0) in
-      let others : List Row = rows_in (drop (2 * (i + 1)) places) (count - (i + 1)) in
-      let room : i < length ks = omega arith in
-      let this : take i ks ++ raised_at reg d (rows_in (drop (2 * i) places) (count - i)) name (drop i ks) ≡ take i ks ++ v ∷ raised_at reg d others name (drop (suc i) ks) =
-      rw (row_next places count i (omega arith) (omega arith), drop-cons ks i 0 room) in
-      let stored : take (i + 1) (set ks i v) ++ raised_at reg d others name (drop (i + 1) (set ks i v)) ≡ take i ks ++ v ∷ raised_at reg d others name (drop (suc i) ks) =
-      ap (λ (n : ℕ). take n (set ks i v) ++ raised_at reg d others name (drop n (set ks i v))) (add-one i)
-      ∙ rw (take-suc-set ks i v room, drop-set-lt (suc i) ks i v (omega arith), append_snoc (take i ks) v (raised_at reg d others name (drop (suc i) ks))) in
-      this ∙ sym stored
+  none_counted [] = refl
+  none_counted (r ∷ rs) = refl
 
-pub count_start : (reg : List ℕ) (d : Layout) (name : Text) (places ks : List ℕ) (count : ℕ)
-    → take 0 ks ++ raised_at reg d (rows_in (drop (2 * 0) places) (count - 0)) name (drop 0 ks) ≡ raised_at reg d (rows_in places count) name ks
-count_start reg d name places ks count = ap (λ (n : ℕ). raised_at reg d (rows_in places n) name ks) (sub-zero count)
+  -- as many rows as there are counts
+  pub rows_cut : (rs : List Row) (ks : List ℕ) (n : ℕ) → min (length rs) (length ks) ≤ n → raised_at reg d (take n rs) name ks ≡ raised_at reg d rs name ks
+  unfolding raised_at
+  rows_cut [] ks n h = rw (take-nil n)
+  rows_cut (r ∷ rs) [] n h = none_counted (take n (r ∷ rs))
+  rows_cut (r ∷ rs) (k ∷ ks) zero h = absurd (omega arith)
+  rows_cut (r ∷ rs) (k ∷ ks) (suc n) h = ap (λ (js : List ℕ). pick (is_named reg d r name) (raised k) k ∷ js) (rows_cut rs ks n (omega arith))
+
+  -- the counts before i are done, and the rows that are left are those of the others
+  module _ (rows : List Row) (ks : List ℕ) (i : ℕ) where
+    pub count_done : length rows ≤ i → take i ks ++ raised_at reg d (drop i rows) name (drop i ks) ≡ ks
+    unfolding raised_at
+    count_done h = rw (drop_of_length-le rows {i = i} h) (take-append-drop i ks)
+
+    module _ (h : i < length rows) (room : i < length ks) where
+      this : take i ks ++ raised_at reg d (drop i rows) name (drop i ks)
+          ≡ take i ks ++ pick (is_named reg d (get_or rows i empty_row) name) (raised (get_or ks i 0)) (get_or ks i 0) ∷ raised_at reg d (drop (i + 1) rows) name (drop (i + 1) ks)
+      unfolding raised_at
+      this = rw (add-one i, drop-cons rows i empty_row h, drop-cons ks i 0 room)
+
+      stored : (v : ℕ) → take (i + 1) (set ks i v) ++ raised_at reg d (drop (i + 1) rows) name (drop (i + 1) (set ks i v))
+          ≡ take i ks ++ v ∷ raised_at reg d (drop (i + 1) rows) name (drop (i + 1) ks)
+      stored v =
+          rw (take_more_set ks i v room, drop-set-lt (i + 1) ks i v (omega arith), append_snoc (take i ks) v (raised_at reg d (drop (i + 1) rows) name (drop (i + 1) ks)))
+
+      pub count_turn : {v : ℕ} → true ≡ is_named reg d (get_or rows i empty_row) name → v ≡ raised (get_or ks i 0)
+          → take i ks ++ raised_at reg d (drop i rows) name (drop i ks)
+          ≡ take (i + 1) (set ks i v) ++ raised_at reg d (drop (i + 1) rows) name (drop (i + 1) (set ks i v))
+      count_turn {v} t e = this ∙ rw (← t, ← e) (sym (stored v))
+
+      pub count_passed : false ≡ is_named reg d (get_or rows i empty_row) name
+          → take i ks ++ raised_at reg d (drop i rows) name (drop i ks) ≡ take (i + 1) ks ++ raised_at reg d (drop (i + 1) rows) name (drop (i + 1) ks)
+      count_passed f = this ∙ rw (← f) (sym (stored (get_or ks i 0)) ∙ rw (set-get_or ks i 0))
 
 -- ------------------------------------------------------------------ one entry
 

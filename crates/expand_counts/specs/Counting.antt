@@ -11,7 +11,8 @@ use Rattle.tape.specs.Scan.{skip_at}
 use Rattle.tape.specs.declared.layout.Layout.{Layout}
 use Rattle.tape.specs.declared.layout.Place.{Place}
 use Rattle.nodes.specs.Node.{by_code, on_value, on_place, expect_at, named, name_at}
-use Rattle.registry.specs.Places.{Row, origin, key_of}
+use Rattle.registry.specs.Places.{origin, key_of}
+use Rattle.registry.specs.declared.rows.Row.{Row}
 use Rattle.definition.specs.Counts.{ceiling}
 use Rattle.expand_counts.specs.declared.Passing.{Passing}
 

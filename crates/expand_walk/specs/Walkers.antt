@@ -27,8 +27,8 @@ use Rattle.walk_state.specs.Writing.{state, without_message_at}
 use Rattle.subst_places.specs.Parameters.{behind_in}
 use Rattle.subst_call.specs.Front.{wrong_count}
 use Rattle.subst_call.specs.declared.Macro.{Macro}
-use Rattle.walk_state.specs.declared.writing.State.{State}
-use Rattle.walk_state.specs.declared.writing.Walk.TheVariants as walk
+use Rattle.walk_state.specs.Walk.{State}
+use Rattle.walk_state.specs.Walk as walk
 use Rattle.expand_stray.specs.Concrete.{
   concrete_within_in,
   concrete_slot_in,

@@ -17,8 +17,8 @@ use Rattle.definition.specs.Answers.{Buffers, long_buffers}
 use Rattle.tape.specs.Accept.{accept_of}
 use Rattle.tape.specs.declared.layout.Layout.{Layout}
 use Rattle.tape.proofs.Acceptance.{RootOf, Answers, answers_2, answers_3, answers_tape, answers}
-use Rattle.walk_state.specs.declared.writing.Walk.{Walk}
-use Rattle.walk_state.specs.declared.writing.Walk.TheVariants as walk
+use Rattle.walk_state.specs.Walk.{Walk}
+use Rattle.walk_state.specs.Walk as walk
 use Rattle.answer.specs.Matches.{OutcomeMatches}
 use Rattle.answer.specs.Tapes.{on_first, accept_two}
 use Rattle.definition.specs.Counts.{counts_after, when_read, when_taken}

@@ -7,12 +7,13 @@ use Rattle.definition.specs.Answers.{Answer, Buffers}
 use Rattle.tape.specs.Pick.{pick}
 use Rattle.tape.specs.declared.layout.Layout.{Layout}
 use Rattle.answer.specs.Matches.{AnswersOutcome}
-use Rattle.registry.specs.Places.{Row, index_at, build_at}
+use Rattle.registry.specs.declared.rows.Row.{Row}
+use Rattle.registry.specs.Places.{index_at, build_at}
 use Rattle.walk_state.specs.Writing.{state}
 use Rattle.area.specs.Area.{empty_at}
 use Rattle.subst_call.specs.Front.{origin, refuse_too_large_in}
-use Rattle.walk_state.specs.declared.writing.Walk.{Walk}
-use Rattle.walk_state.specs.declared.writing.Walk.TheVariants as walk
+use Rattle.walk_state.specs.Walk.{Walk}
+use Rattle.walk_state.specs.Walk as walk
 use Rattle.expand_counts.specs.Counting.{counted_in}
 use Rattle.expand_calls.specs.Output.{Reads, Progress, progress, on_work}
 use Rattle.expand_walk.specs.Walkers.{walkers}

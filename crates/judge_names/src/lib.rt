@@ -7,7 +7,7 @@
 ghost use Rattle.std.specs.Prelude.{◌≡◌, true, ◌&&◌, [], ◌≤◌, ◌<◌, eqb};
 ghost use Rattle.definition.specs.Check.{contains};
 ghost use Rattle.definition.specs.Text.{eq_text};
-ghost use Rattle.tape.specs.Layouts.{Held, holds, code_at, value_at, width_at, text_behind};
+ghost use Rattle.tape.specs.Layouts.{code_at, value_at, width_at, text_behind};
 ghost use Rattle.tape.specs.Pick.{pick};
 ghost use Rattle.format.specs.Names.{is_name, names_in};
 ghost use Rattle.definition.specs.Agree.{consistent, consistent_with, fits, same_but_names};
@@ -16,7 +16,8 @@ ghost use Rattle.judge_names.specs.Entries.{text_at, spelled_at, entries_in, pro
 use grammar::code;
 use grammar::kind::text_width;
 use nodes::{Name, name_at};
-use tape::layout::{Layout, code_at, holds, text_behind, value_at};
+use tape::held::HeldTape;
+use tape::layout::{Tape, text_behind};
 
 pub mod result;
 
@@ -29,62 +30,60 @@ fn is_name(code: u8) -> bool
 }
 
 // How many bytes of text entry `at` takes.
-fn width_at(s: &[u8], l: Layout, at: usize) -> u64
-    requires { Held s.now l × (at < l.entries) }
-    ensures { result ≡ width_at s.now l at }
+fn width_at(held: &HeldTape, at: usize) -> u64
+    requires { at < held.now.tape.layout.entries }
+    ensures { result ≡ width_at held.now.tape.bytes.now held.now.tape.layout at }
 {
-    text_width(code_at(s, l, at), value_at(s, l, at))
+    text_width(held.code_at(at), held.value_at(at))
 }
 
 // The text offset behind entry `at`, whose text begins at `text`, as far as there is text.
-fn behind(s: &[u8], l: Layout, at: usize, text: usize) -> usize
-    requires { Held s.now l × (at < l.entries) × (text ≤ l.size) }
-    ensures { (result ≡ text_behind l.size text (width_at s.now l at)) × (result ≤ l.size) }
+fn behind(held: &HeldTape, at: usize, text: usize) -> usize
+    requires { (at < held.now.tape.layout.entries) × (text ≤ held.now.tape.layout.size) }
+    ensures { (result ≡ text_behind held.now.tape.layout.size text (width_at held.now.tape.bytes.now held.now.tape.layout at)) × (result ≤ held.now.tape.layout.size) }
 {
-    text_behind(l.size, text, width_at(s, l, at))
+    text_behind(held.tape.layout.size, text, width_at(held, at))
 }
 
 // The text of entry `at`, which begins at `text`.
-fn text_of(s: &[u8], l: Layout, at: usize, text: usize) -> &[u8]
-    requires { Held s.now l × (at < l.entries) }
-    ensures { result.now ≡ spelled_at s.now l at text }
+fn text_of<'a>(held: &HeldTape<'a>, at: usize, text: usize) -> &'a [u8]
+    requires { at < held.now.tape.layout.entries }
+    ensures { result.now ≡ spelled_at held.now.tape.bytes.now held.now.tape.layout at text }
 {
-    let size = width_at(s, l, at) as usize;
-    name_at(s, l, Name { text, size })
+    let size = width_at(held, at) as usize;
+    name_at(&held.tape, Name { text, size })
 }
 
 // Whether entry `at` is a name, and this one.
 #[tactic(auto, using(nodes::proofs::Texts::equal_texts))]
-fn is_named(s: &[u8], l: Layout, at: usize, text: usize, name: &[u8]) -> bool
-    requires { Held s.now l × (at < l.entries) }
-    ensures { result ≡ (is_name (code_at s.now l at) && eq_text (spelled_at s.now l at text) name.now) }
+fn is_named(held: &HeldTape, at: usize, text: usize, name: &[u8]) -> bool
+    requires { at < held.now.tape.layout.entries }
+    ensures { result ≡ (is_name (code_at held.now.tape.bytes.now held.now.tape.layout at) && eq_text (spelled_at held.now.tape.bytes.now held.now.tape.layout at text) name.now) }
 {
-    is_name(code_at(s, l, at)) && text_of(s, l, at, text) == name
+    is_name(held.code_at(at)) && text_of(held, at, text) == name
 }
 
 // Whether a tape has the name.
 #[tactic(auto, using(crate::proofs::Steps::text_step, crate::proofs::Steps::text_first, crate::proofs::Steps::names_step, crate::proofs::Steps::names_end))]
-fn has_name(s: &[u8], l: Layout, name: &[u8]) -> bool
-    requires { Held s.now l }
-    ensures { result ≡ contains (names_in (entries_in s.now l)) name.now }
+fn has_name(held: &HeldTape, name: &[u8]) -> bool
+    ensures { result ≡ contains (names_in (entries_in held.now.tape.bytes.now held.now.tape.layout)) name.now }
 {
     let mut text = 0;
-    for at in 0..l.entries {
-        if is_named(s, l, at, text, name) {
+    for at in 0..held.entries() {
+        if is_named(held, at, text, name) {
             return true;
         }
-        text = behind(s, l, at, text);
+        text = behind(held, at, text);
     }
     false
 }
 
 // Whether a name stands in the condition or in a definition, called or not.
 #[tactic(auto, using(definition::proofs::Texts::contains_append))]
-fn is_protected(reg: &[u8], d: Layout, cond: &[u8], c: Layout, name: &[u8]) -> bool
-    requires { Held reg.now d × Held cond.now c }
-    ensures { result ≡ contains (protected_in reg.now d cond.now c) name.now }
+fn is_protected(reg: &HeldTape, cond: &HeldTape, name: &[u8]) -> bool
+    ensures { result ≡ contains (protected_in reg.now.tape.bytes.now reg.now.tape.layout cond.now.tape.bytes.now cond.now.tape.layout) name.now }
 {
-    has_name(cond, c, name) || has_name(reg, d, name)
+    has_name(cond, name) || has_name(reg, name)
 }
 
 // Whether two pairs agree in both directions: our names are equal exactly if theirs are.
@@ -97,44 +96,34 @@ fn consistent(ours: &[u8], theirs: &[u8], other: &[u8], its: &[u8]) -> bool
 
 // Whether a pair agrees with that of entry `at`, if it is a name.
 fn agrees_with(
-    s: &[u8],
-    l: Layout,
-    t: &[u8],
-    m: Layout,
+    left: &HeldTape,
+    right: &HeldTape,
     at: usize,
     a: usize,
     b: usize,
     ours: &[u8],
     theirs: &[u8],
 ) -> bool
-    requires { Held s.now l × Held t.now m × (at < l.entries) × (at < m.entries) }
-    ensures { result ≡ pick (is_name (code_at s.now l at)) (consistent (pair ours.now theirs.now) (pair (spelled_at s.now l at a) (spelled_at t.now m at b))) true }
+    requires { (at < left.now.tape.layout.entries) × (at < right.now.tape.layout.entries) }
+    ensures { result ≡ pick (is_name (code_at left.now.tape.bytes.now left.now.tape.layout at)) (consistent (pair ours.now theirs.now) (pair (spelled_at left.now.tape.bytes.now left.now.tape.layout at a) (spelled_at right.now.tape.bytes.now right.now.tape.layout at b))) true }
 {
-    !is_name(code_at(s, l, at))
-        || consistent(ours, theirs, text_of(s, l, at, a), text_of(t, m, at, b))
+    !is_name(left.code_at(at))
+        || consistent(ours, theirs, text_of(left, at, a), text_of(right, at, b))
 }
 
 // Whether a pair agrees with those of all names before entry `end`.
 #[tactic(auto, using(crate::proofs::Steps::text_step, crate::proofs::Steps::text_first, crate::proofs::Steps::pairs_step, crate::proofs::Steps::pairs_none))]
-fn agrees_before(
-    s: &[u8],
-    l: Layout,
-    t: &[u8],
-    m: Layout,
-    end: usize,
-    ours: &[u8],
-    theirs: &[u8],
-) -> bool
-    requires { Held s.now l × Held t.now m × (end ≤ l.entries) × (end ≤ m.entries) }
-    ensures { result ≡ consistent_with (pair ours.now theirs.now) (pairs_before s.now l t.now m end) }
+fn agrees_before(left: &HeldTape, right: &HeldTape, end: usize, ours: &[u8], theirs: &[u8]) -> bool
+    requires { (end ≤ left.now.tape.layout.entries) × (end ≤ right.now.tape.layout.entries) }
+    ensures { result ≡ consistent_with (pair ours.now theirs.now) (pairs_before left.now.tape.bytes.now left.now.tape.layout right.now.tape.bytes.now right.now.tape.layout end) }
 {
     let mut a = 0;
     let mut b = 0;
     let mut agrees = true;
     for at in 0..end {
-        agrees &= agrees_with(s, l, t, m, at, a, b, ours, theirs);
-        a = behind(s, l, at, a);
-        b = behind(t, m, at, b);
+        agrees &= agrees_with(left, right, at, a, b, ours, theirs);
+        a = behind(left, at, a);
+        b = behind(right, at, b);
     }
     agrees
 }
@@ -142,108 +131,80 @@ fn agrees_before(
 // Whether the pair of two names at entry `at` may stand behind those before it.
 #[tactic(auto, using(nodes::proofs::Texts::equal_texts), unfolding(definition::specs::Agree::fits))]
 fn fits(
-    reg: &[u8],
-    d: Layout,
-    cond: &[u8],
-    c: Layout,
-    s: &[u8],
-    l: Layout,
-    t: &[u8],
-    m: Layout,
+    reg: &HeldTape,
+    cond: &HeldTape,
+    left: &HeldTape,
+    right: &HeldTape,
     at: usize,
     ours: &[u8],
     theirs: &[u8],
 ) -> bool
-    requires { Held reg.now d × Held cond.now c × Held s.now l × Held t.now m × (at ≤ l.entries) × (at ≤ m.entries) }
-    ensures { result ≡ fits (protected_in reg.now d cond.now c) (pairs_before s.now l t.now m at) (pair ours.now theirs.now) }
+    requires { (at ≤ left.now.tape.layout.entries) × (at ≤ right.now.tape.layout.entries) }
+    ensures { result ≡ fits (protected_in reg.now.tape.bytes.now reg.now.tape.layout cond.now.tape.bytes.now cond.now.tape.layout) (pairs_before left.now.tape.bytes.now left.now.tape.layout right.now.tape.bytes.now right.now.tape.layout at) (pair ours.now theirs.now) }
 {
-    if is_protected(reg, d, cond, c, ours) {
+    if is_protected(reg, cond, ours) {
         return ours == theirs;
     }
-    !is_protected(reg, d, cond, c, theirs) && agrees_before(s, l, t, m, at, ours, theirs)
+    !is_protected(reg, cond, theirs) && agrees_before(left, right, at, ours, theirs)
 }
 
 // Whether entry `at` of the one tape may stand where that of the other stands.
 #[tactic(auto, using(nodes::proofs::Texts::equal_texts), unfolding(crate::specs::Entries::agrees_at, crate::specs::Entries::entry_at, definition::specs::Agree::equal_entry))]
 fn agrees_at(
-    reg: &[u8],
-    d: Layout,
-    cond: &[u8],
-    c: Layout,
-    s: &[u8],
-    l: Layout,
-    t: &[u8],
-    m: Layout,
+    reg: &HeldTape,
+    cond: &HeldTape,
+    left: &HeldTape,
+    right: &HeldTape,
     at: usize,
     a: usize,
     b: usize,
 ) -> bool
-    requires { Held reg.now d × Held cond.now c × Held s.now l × Held t.now m × (at < l.entries) × (at < m.entries) × (a ≡ text_at s.now l at) × (b ≡ text_at t.now m at) }
-    ensures { result ≡ agrees_at s.now l t.now m (protected_in reg.now d cond.now c) at }
+    requires { (at < left.now.tape.layout.entries) × (at < right.now.tape.layout.entries) × (a ≡ text_at left.now.tape.bytes.now left.now.tape.layout at) × (b ≡ text_at right.now.tape.bytes.now right.now.tape.layout at) }
+    ensures { result ≡ agrees_at left.now.tape.bytes.now left.now.tape.layout right.now.tape.bytes.now right.now.tape.layout (protected_in reg.now.tape.bytes.now reg.now.tape.layout cond.now.tape.bytes.now cond.now.tape.layout) at }
 {
-    let code = code_at(s, l, at);
-    if code != code_at(t, m, at) {
+    let code = left.code_at(at);
+    if code != right.code_at(at) {
         return false;
     }
-    let ours = text_of(s, l, at, a);
-    let theirs = text_of(t, m, at, b);
+    let ours = text_of(left, at, a);
+    let theirs = text_of(right, at, b);
     if is_name(code) {
-        return fits(reg, d, cond, c, s, l, t, m, at, ours, theirs);
+        return fits(reg, cond, left, right, at, ours, theirs);
     }
-    value_at(s, l, at) == value_at(t, m, at) && ours == theirs
+    left.value_at(at) == right.value_at(at) && ours == theirs
 }
 
 // The entries of two tapes that have as many.
 #[tactic(auto, using(crate::proofs::Steps::text_step, crate::proofs::Steps::text_first, crate::proofs::Steps::entry_turn, crate::proofs::Steps::entries_begin, crate::proofs::Steps::entries_done))]
-fn same_entries(
-    reg: &[u8],
-    d: Layout,
-    cond: &[u8],
-    c: Layout,
-    s: &[u8],
-    l: Layout,
-    t: &[u8],
-    m: Layout,
-) -> bool
-    requires { Held reg.now d × Held cond.now c × Held s.now l × Held t.now m × (l.entries ≡ m.entries) }
-    ensures { result ≡ same_but_names (protected_in reg.now d cond.now c) [] (entries_in s.now l) (entries_in t.now m) }
+fn same_entries(reg: &HeldTape, cond: &HeldTape, left: &HeldTape, right: &HeldTape) -> bool
+    requires { left.now.tape.layout.entries ≡ right.now.tape.layout.entries }
+    ensures { result ≡ same_but_names (protected_in reg.now.tape.bytes.now reg.now.tape.layout cond.now.tape.bytes.now cond.now.tape.layout) [] (entries_in left.now.tape.bytes.now left.now.tape.layout) (entries_in right.now.tape.bytes.now right.now.tape.layout) }
 {
     let mut a = 0;
     let mut b = 0;
-    for at in 0..l.entries {
-        if !agrees_at(reg, d, cond, c, s, l, t, m, at, a, b) {
+    for at in 0..left.entries() {
+        if !agrees_at(reg, cond, left, right, at, a, b) {
             return false;
         }
-        a = behind(s, l, at, a);
-        b = behind(t, m, at, b);
+        a = behind(left, at, a);
+        b = behind(right, at, b);
     }
     true
 }
 
-// Whether two slices hold their layouts.
-fn hold(s: &[u8], l: Layout, t: &[u8], m: Layout) -> bool
-    ensures { result ≡ (holds s.now l && holds t.now m) }
-{
-    holds(s, l) && holds(t, m)
-}
-
-// Whether the entries of `t` are those of `s` but for names; `reg` and `cond` have the names that are protected. A slice that does not
+// Whether the entries of `right` are those of `left` but for names; `reg` and `cond` have the names that are protected. A slice that does not
 // hold its layout, which acceptance rules out, is never the same.
 #[tactic(auto, using(crate::proofs::Steps::other_counts), unfolding(crate::specs::Entries::same_in))]
-pub fn same_but_names(
-    reg: &[u8],
-    d: Layout,
-    cond: &[u8],
-    c: Layout,
-    s: &[u8],
-    l: Layout,
-    t: &[u8],
-    m: Layout,
-) -> bool
-    ensures { result ≡ same_in s.now l t.now m reg.now d cond.now c }
+pub fn same_but_names(reg: &Tape, cond: &Tape, left: &Tape, right: &Tape) -> bool
+    ensures { result ≡ same_in left.now.bytes.now left.now.layout right.now.bytes.now right.now.layout reg.now.bytes.now reg.now.layout cond.now.bytes.now cond.now.layout }
 {
-    hold(reg, d, cond, c)
-        && hold(s, l, t, m)
-        && l.entries == m.entries
-        && same_entries(reg, d, cond, c, s, l, t, m)
+    let (Some(reg), Some(cond), Some(left), Some(right)) = (
+        reg.held(),
+        cond.held(),
+        left.held(),
+        right.held(),
+    ) else {
+        return false;
+    };
+    left.entries() == right.entries() && same_entries(&reg, &cond, &left, &right)
 }

@@ -23,10 +23,10 @@ use Rattle.area.proofs.Room.{fits_decides}
 use Rattle.area.proofs.Appends.{out_none, out_append}
 use Rattle.area.proofs.Patch.{out_patch}
 use Rattle.walk_state.specs.Writing.{Progress, state, going, without_message_at}
-use Rattle.walk_state.specs.declared.writing.State.{State}
-use Rattle.walk_state.specs.declared.writing.Walk.TheVariants as walk
+use Rattle.walk_state.specs.Walk.{State}
+use Rattle.walk_state.specs.Walk as walk
 use Rattle.subst_state.specs.Output.{copy_in}
-use Rattle.registry.specs.Places.{Row}
+use Rattle.registry.specs.declared.rows.Row.{Row}
 use Rattle.registry.proofs.Standing.{Indexed, Ended}
 use Rattle.merge.specs.Join.{add_in, first_in, after_compared, join_one_in, join_in, joined_in}
 use Rattle.merge.specs.declared.agree.Compared.{Compared}

@@ -13,11 +13,12 @@ use Rattle.area.specs.declared.Writer.{Writer}
 use Rattle.messages.specs.Reason.{refused_at}
 use Rattle.messages.specs.declared.Reason.TheVariants.{WithoutMessage}
 use Rattle.walk_state.specs.Writing.{Progress, progress, state, going, after, without_message_at}
-use Rattle.walk_state.specs.declared.writing.State.{State}
-use Rattle.walk_state.specs.declared.writing.Walk.{Walk}
-use Rattle.walk_state.specs.declared.writing.Walk.TheVariants as walk
+use Rattle.walk_state.specs.Walk.{State}
+use Rattle.walk_state.specs.Walk.{Walk}
+use Rattle.walk_state.specs.Walk as walk
 use Rattle.subst_state.specs.Output.{copy_in}
-use Rattle.registry.specs.Places.{Row, origin, index_at, build_at}
+use Rattle.registry.specs.Places.{origin, index_at, build_at}
+use Rattle.registry.specs.declared.rows.Row.{Row}
 use Rattle.merge.specs.Agree.{compare_at}
 use Rattle.merge.specs.declared.agree.Compared.{Compared}
 use Rattle.merge.specs.declared.agree.Compared.TheVariants.{New, Known, Differs}

@@ -3,8 +3,9 @@
 #![tactic(auto)]
 
 ghost use Rattle.std.specs.Prelude.{[], ◌≡◌, ◌&&◌, leb, length, replicate};
+ghost use Rattle.definition.specs.Answers.{number_alone, without_work};
 ghost use Rattle.definition.specs.Merge.{merge_answer};
-ghost use Rattle.answer.specs.Matches.{answer_with, buffers};
+ghost use Rattle.answer.specs.Matches.{answer_with, ended};
 ghost use Rattle.de_morgan.specs.Rewritten.{rewritten_in, rewritten_layout};
 ghost use Rattle.merge.specs.Ends.{AnswersMerging, EndsMerge};
 
@@ -12,9 +13,9 @@ use crate::join::{Merging, merge_named};
 use answer::tapes::accept_two;
 use answer::{Answer, number_alone, refuse};
 use area::finish;
-use de_morgan::{rewrite, without_or};
+use de_morgan::{rewritten_in, without_or};
 use grammar::codes::DEFINITIONS;
-use tape::layout::Layout;
+use tape::layout::Tape;
 
 mod agree;
 mod join;
@@ -26,79 +27,80 @@ fn long_enough(res: usize, message: usize) -> bool
     12296 <= res && 2048 <= message
 }
 
+// A refusal that comes before the merge.
+#[tactic(auto, using(answer::proofs::Ends::without_work_lem), unfolding(definition::specs::Answers::number_alone, answer::specs::Matches::ended))]
+fn refuse_number(number: u32, res: &mut [u8], message: &mut [u8]) -> Answer
+    ensures { answer_with result res.new [] message.new ≡ ended (without_work (length res.old) (length message.old)) (number_alone number) }
+{
+    number_alone(number, 0, res, &mut [], message)
+}
+
 // The answer of what a merge came to, whose registry stands in an area.
 fn answer_merging(
-    first: &[u8],
-    d: Layout,
-    second: &[u8],
-    e: Layout,
+    first: &Tape,
+    second: &Tape,
     m: Merging,
     area: &[u8],
     res: &mut [u8],
     message: &mut [u8],
 ) -> Answer
-    ensures { AnswersMerging first.now d second.now e m area.now (length res.old) (length message.old) (answer_with result res.new [] message.new) }
+    ensures { AnswersMerging first.now.bytes.now first.now.layout second.now.bytes.now second.now.layout m area.now (length res.old) (length message.old) (answer_with result res.new [] message.new) }
 {
     match m {
         Merging::Written(out) => {
             finish(area, out, res);
-            number_alone(0, 0, &mut [], &mut [], message)
+            number_alone(numbers::DONE, 0, &mut [], &mut [], message)
         }
-        Merging::First(f) => refuse(first, d, first, d, f, 0, res, &mut [], message),
-        Merging::Second(f) => refuse(second, e, second, e, f, 0, res, &mut [], message),
+        Merging::First(f) => refuse(first, first, f, 0, res, &mut [], message),
+        Merging::Second(f) => refuse(second, second, f, 0, res, &mut [], message),
     }
 }
 
-// The rows of 255 definitions, as many as a registry can have, and the area of the joined registry.
+// The merge of two tapes, with room for the area of the joined registry.
 #[tactic(auto, using(crate::proofs::Answering::ends_merge))]
-fn merge_in(
-    first: &[u8],
-    d: Layout,
-    second: &[u8],
-    e: Layout,
-    res: &mut [u8],
-    message: &mut [u8],
-) -> Answer
-    ensures { EndsMerge first.now d second.now e (length res.old) (length message.old) (answer_with result res.new [] message.new) }
+fn merge_in(first: &Tape, second: &Tape, res: &mut [u8], message: &mut [u8]) -> Answer
+    ensures { EndsMerge first.now.bytes.now first.now.layout second.now.bytes.now second.now.layout (length res.old) (length message.old) (answer_with result res.new [] message.new) }
 {
-    let mut places = [0usize; 510];
     let mut area = [0u8; 12288];
-    let m = merge_named(first, d, second, e, &mut places, &mut area);
-    answer_merging(first, d, second, e, m, &area, res, message)
+    let m = merge_named(first, second, &mut area);
+    answer_merging(first, second, m, &area, res, message)
 }
 
 // The same over the rewritten tapes, for which there is room here: most tapes have no Or.
-#[tactic(auto, using(crate::proofs::Answering::ends_rewritten))]
-fn merge_rewritten(
-    first: &[u8],
-    d: Layout,
-    second: &[u8],
-    e: Layout,
-    res: &mut [u8],
-    message: &mut [u8],
-) -> Answer
-    ensures { EndsMerge (rewritten_in first.now d (replicate 12296 0)) (rewritten_layout first.now d) (rewritten_in second.now e (replicate 12296 0)) (rewritten_layout second.now e) (length res.old) (length message.old) (answer_with result res.new [] message.new) }
+fn merge_rewritten(first: &Tape, second: &Tape, res: &mut [u8], message: &mut [u8]) -> Answer
+    ensures { EndsMerge (rewritten_in first.now.bytes.now first.now.layout (replicate 12296 0)) (rewritten_layout first.now.bytes.now first.now.layout) (rewritten_in second.now.bytes.now second.now.layout (replicate 12296 0)) (rewritten_layout second.now.bytes.now second.now.layout) (length res.old) (length message.old) (answer_with result res.new [] message.new) }
 {
     let mut one = [0u8; 12296];
     let mut other = [0u8; 12296];
-    let f = rewrite(first, d, &mut one);
-    let g = rewrite(second, e, &mut other);
-    merge_in(&one, f, &other, g, res, message)
+    let first = rewritten_in(first, &mut one);
+    let second = rewritten_in(second, &mut other);
+    merge_in(&first, &second, res, message)
 }
 
 // The operation: the answer and every byte of the two buffers are what the definition says, for every input and every buffer.
-#[tactic(auto, using(format::proofs::Accepted::bytes_all, crate::proofs::Operation::given))]
+#[tactic(auto, using(format::proofs::Accepted::bytes_all, crate::proofs::Operation::short, crate::proofs::Operation::refused, crate::proofs::Operation::given_or, crate::proofs::Operation::given))]
 pub fn merge(first: &[u8], second: &[u8], res: &mut [u8], message: &mut [u8]) -> Answer
     ensures { answer_with result res.new [] message.new ≡ merge_answer (length res.old) (length message.old) first.now second.now }
 {
     if !long_enough(res.len(), message.len()) {
-        return number_alone(1, 0, res, &mut [], message);
+        return refuse_number(numbers::SHORT_BUFFER, res, message);
     }
     match accept_two(first, DEFINITIONS, second, DEFINITIONS) {
-        Ok((d, e)) if without_or(first, d, second, e) => {
-            merge_in(first, d, second, e, res, message)
+        Err(fault) => refuse_number(fault.number(), res, message),
+        Ok((d, e)) => {
+            let first = Tape {
+                bytes: first,
+                layout: d,
+            };
+            let second = Tape {
+                bytes: second,
+                layout: e,
+            };
+            if without_or(&first, &second) {
+                merge_in(&first, &second, res, message)
+            } else {
+                merge_rewritten(&first, &second, res, message)
+            }
         }
-        Ok((d, e)) => merge_rewritten(first, d, second, e, res, message),
-        Err(fault) => number_alone(fault.number(), 0, res, &mut [], message),
     }
 }

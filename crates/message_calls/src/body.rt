@@ -4,99 +4,81 @@
 ghost use Rattle.definition.specs.Outcome.{span_start};
 ghost use Rattle.definition.specs.Messages.{reserved_name, duplicate_definition, undeclared_parameter, plain_identifier, macro_in_macro};
 ghost use Rattle.nodes.specs.Node.{name_at};
-ghost use Rattle.buffer.specs.Buffer.{Written};
+ghost use Rattle.buffer.specs.Message.{Puts};
 ghost use Rattle.message_parts.specs.Names.{names_at};
 
-use buffer::{write_at, write_number};
+use buffer::message::Message;
 use message_parts::names::params_above;
-use message_parts::{around, named};
-use nodes::Name;
-use tape::layout::{Layout, Place};
+use message_parts::{around, around_two, named, numbered};
+use nodes::{Name, span_of};
+use tape::layout::{Place, Tape};
 
-pub fn reserved_name(message: &mut [u8], s: &[u8], l: Layout, name: Name) -> usize
-    ensures { Written message.old message.new result (reserved_name (name_at s.now l name)) }
+pub fn reserved_name(message: &mut Message, tape: &Tape, name: Name)
+    ensures { Puts (reserved_name (name_at tape.now.bytes.now tape.now.layout name)) message.old message.new }
 {
     around(
         message,
         b"macro name `",
-        s,
-        l,
+        tape,
         name,
         b"` is reserved (built-in or keyword); pick a different name",
-    )
+    );
 }
 
-pub fn duplicate_definition(message: &mut [u8], s: &[u8], l: Layout, name: Name, span: u64) -> usize
-    ensures { Written message.old message.new result (duplicate_definition (name_at s.now l name) (span_start span)) }
+pub fn duplicate_definition(message: &mut Message, tape: &Tape, name: Name, span: u64)
+    ensures { Puts (duplicate_definition (name_at tape.now.bytes.now tape.now.layout name) (span_start span)) message.old message.new }
 {
-    let a = around(
+    around(
         message,
         b"duplicate macro definition `",
-        s,
-        l,
+        tape,
         name,
         b"` (previously defined at byte ",
     );
-    let b = write_number(message, a, (span % 0x1_0000_0000) as u32);
-    write_at(message, b, b")")
+    numbered(message, span_of(span).start, b")");
 }
 
 pub fn undeclared_parameter(
-    message: &mut [u8],
-    s: &[u8],
-    l: Layout,
+    message: &mut Message,
+    tape: &Tape,
     name: Name,
     params: Place,
     count: u64,
-) -> usize
-    ensures { Written message.old message.new result (undeclared_parameter (name_at s.now l name) (names_at s.now l params count)) }
+)
+    ensures { Puts (undeclared_parameter (name_at tape.now.bytes.now tape.now.layout name) (names_at tape.now.bytes.now tape.now.layout params count)) message.old message.new }
 {
-    let a = around(
+    around(
         message,
         b"in `def temporal` body: `?",
-        s,
-        l,
+        tape,
         name,
         b"` does not name a declared parameter (declared: ",
     );
-    params_above(message, a, s, l, params, count, None)
+    params_above(message, tape, params, count, None);
 }
 
-pub fn plain_identifier(message: &mut [u8], s: &[u8], l: Layout, name: Name) -> usize
-    ensures { Written message.old message.new result (plain_identifier (name_at s.now l name)) }
+pub fn plain_identifier(message: &mut Message, tape: &Tape, name: Name)
+    ensures { Puts (plain_identifier (name_at tape.now.bytes.now tape.now.layout name)) message.old message.new }
 {
-    let a = around(
+    around_two(
         message,
         b"in `def temporal` body: plain identifier `",
-        s,
-        l,
+        tape,
         name,
         b"` is not allowed, because expansion does not rename it and it can capture or bind a call-site variable; write `$",
-    );
-    let b = named(
-        message,
-        a,
-        s,
-        l,
         name,
         b"` for a variable the macro binds itself, or declare a `?",
     );
     named(
         message,
-        b,
-        s,
-        l,
+        tape,
         name,
         b"` parameter for a variable the caller names",
-    )
+    );
 }
 
-pub fn macro_in_macro(message: &mut [u8]) -> usize
-    ensures { Written message.old message.new result macro_in_macro }
+pub fn macro_in_macro(message: &mut Message)
+    ensures { Puts macro_in_macro message.old message.new }
 {
-    write_at(
-        message,
-        0,
-        b"in `def temporal` body: macro-in-macro is not supported",
-    )
+    message.put(b"in `def temporal` body: macro-in-macro is not supported");
 }

@@ -1,4 +1,4 @@
-// The words of document 01's messages 10 to 35, of definitions, bodies and calls: a function for each, that writes it to the front of a buffer.
+// The words of document 01's messages 10 to 35, of definitions, bodies and calls: a function for each, that puts it into a message.
 #![tactic(auto)]
 
 pub mod body;

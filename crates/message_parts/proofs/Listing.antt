@@ -10,23 +10,26 @@ use Rattle.format.specs.Entry.{Text}
 use Rattle.definition.specs.Text.{utf8, open_text}
 use Rattle.definition.specs.Messages.{sort_texts, list_params, fmt_params}
 use Rattle.buffer.specs.Buffer.{Message, write_in}
-use Rattle.message_parts.specs.Write.{Writes}
+use Rattle.buffer.proofs.Messages.{write_append}
 use Rattle.message_parts.specs.Names.{least_in, rest, mark, list_above}
-use Rattle.message_parts.proofs.Writing.{piece, recut, ◌then◌}
 use Rattle.message_parts.proofs.Sorted.{no_rest, next_rest, rest_all}
 
 module _ (f : Option Text) (names : List Text) where
   -- no name is left
-  pub list_last : {m m' : Message} {closing : Text} → least_in f none names ≡ none → m' ≡ write_in closing m
-      → Writes (list_above f (rest f names) ∷ closing ∷ []) m m'
+  pub list_last : (closing : Text) (m : Message) → least_in f none names ≡ none
+      → write_in (flatten (list_above f (rest f names) ∷ closing ∷ [])) m ≡ write_in closing m
   unfolding flatten list_above
-  list_last h w = recut (piece w) (rw (no_rest f names h) refl)
+  list_last closing m h = rw (no_rest f names h, list_above, append-nil) refl
 
   -- the least name, and what is left above it
-  pub list_next : {m m₁ m₂ : Message} {t closing : Text} → least_in f none names ≡ some t → Writes (mark f ∷ t ∷ []) m m₁
-      → Writes (list_above (some t) (rest (some t) names) ∷ closing ∷ []) m₁ m₂ → Writes (list_above f (rest f names) ∷ closing ∷ []) m m₂
+  pub list_next : (closing : Text) (m m₁ : Message) {t : Text} → least_in f none names ≡ some t → m₁ ≡ write_in (flatten (mark f ∷ t ∷ [])) m
+      → write_in (flatten (list_above (some t) (rest (some t) names) ∷ closing ∷ [])) m₁
+      ≡ write_in (flatten (list_above f (rest f names) ∷ closing ∷ [])) m
   unfolding flatten list_above
-  list_next h a w = let e = next_rest f names h in recut (a then w) (rw (e, list_above, append_assoc, append_assoc) refl)
+  list_next closing m m₁ {t} h a =
+      let left = list_above (some t) (rest (some t) names) ∷ closing ∷ [] in
+      rw (a, next_rest f names h, list_above) (write_append (flatten (mark f ∷ t ∷ [])) (flatten left) m
+      ∙ ap (λ (x : Text). write_in x m) (simp (append-nil, append_assoc)))
 
   pub list_falls : {t : Text} → least_in f none names ≡ some t → length (rest (some t) names) < length (rest f names)
   list_falls h = rw (next_rest f names h) (omega arith)

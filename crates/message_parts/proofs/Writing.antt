@@ -1,14 +1,13 @@
 -- A message that is written in several pieces is written whole.
 -- Assumes nothing.
-use Prim.Native.Nat.{ℕ, min, ◌+◌}
-use native.Mathlib.Omega.{arith}
 use mathlib.Core.Path.{◌≡◌, refl, sym, ap, ◌∙◌}
 use mathlib.Core.List.{List, [], ◌∷◌, ◌++◌, append-nil, append_assoc, flatten}
-use lib.ListN.{length}
 use Rattle.format.specs.Entry.{Text}
-use Rattle.buffer.specs.Buffer.{Message, message_in, write_in}
+use Rattle.buffer.specs.declared.message.Message.{Message as Writer}
+use Rattle.buffer.specs.Buffer.{Message, write_in}
+use Rattle.buffer.specs.Message.{Puts}
 use Rattle.buffer.proofs.Messages.{write_append}
-use Rattle.message_parts.specs.Write.{Writes}
+use Rattle.message_parts.specs.Write.{Writes, PutsAll}
 
 flatten_append : (ts us : List Text) → flatten (ts ++ us) ≡ flatten ts ++ flatten us
 unfolding flatten
@@ -42,14 +41,17 @@ joined {t} {u} {v} {w} {x} {m} {m₁} {m₂} a b =
     let q : Writes (w ∷ x ∷ []) m₁ m₂ = record { all = b } in
     p then q
 
--- what is written does not depend on where it is cut
-pub recut : {ts us : List Text} {m m' : Message} → Writes ts m m' → flatten ts ≡ flatten us → Writes us m m'
-recut {ts} {us} {m} w e = record { all = w.all ∙ ap (λ (t : Text). write_in t m) e }
-
 pub whole : {ts : List Text} {m m' : Message} {t : Text} → Writes ts m m' → flatten ts ≡ t → m' ≡ write_in t m
 whole {ts} {m} w e = w.all ∙ ap (λ (t : Text). write_in t m) e
 
--- nothing, at the front of a buffer
-pub write_nothing : (bytes : List ℕ) → message_in bytes 0 ≡ write_in [] (message_in bytes 0)
-unfolding write_in
-write_nothing bytes = let z : min (length bytes) (0 + 0) ≡ 0 = omega arith in rw z
+-- ------------------------------------------------------------------ the same of a writer, in the slice that it was lent
+
+pub put : {t : Text} {w w' : Writer} → Puts t w w' → PutsAll (t ∷ []) w w'
+put p = record { same_slice = p.same_slice; written = piece p.written }
+
+infixr 20 ◌and◌
+pub ◌and◌ : {ts us : List Text} {w w₁ w₂ : Writer} → PutsAll ts w w₁ → PutsAll us w₁ w₂ → PutsAll (ts ++ us) w w₂
+◌and◌ p q = record { same_slice = q.same_slice ∙ p.same_slice; written = p.written then q.written }
+
+pub wrote : {ts : List Text} {w w' : Writer} {t : Text} → PutsAll ts w w' → flatten ts ≡ t → Puts t w w'
+wrote p e = record { same_slice = p.same_slice; written = whole p.written e }

@@ -2,55 +2,56 @@
 #![tactic(auto)]
 
 ghost use Rattle.std.specs.Prelude.{[], ◌∷◌};
+ghost use Rattle.definition.specs.Text.{decimal};
 ghost use Rattle.nodes.specs.Node.{name_at};
-ghost use Rattle.buffer.specs.Buffer.{message_in};
-ghost use Rattle.message_parts.specs.Write.{Writes};
+ghost use Rattle.message_parts.specs.Write.{PutsAll};
 
-use buffer::write_at;
+use buffer::message::Message;
 use nodes::{Name, name_at};
-use tape::layout::Layout;
+use tape::layout::Tape;
 
 pub mod names;
 
-// A name and what stands behind it, where the message ends at `at`.
+// A name and what stands behind it.
 #[tactic(auto, using(crate::proofs::Writing::two_pieces))]
-pub fn named(message: &mut [u8], at: usize, s: &[u8], l: Layout, name: Name, after: &[u8]) -> usize
-    ensures { Writes (name_at s.now l name ∷ after.now ∷ []) (message_in message.old at) (message_in message.new result) }
+pub fn named(message: &mut Message, tape: &Tape, name: Name, after: &[u8])
+    ensures { PutsAll (name_at tape.now.bytes.now tape.now.layout name ∷ after.now ∷ []) message.old message.new }
 {
-    let a = write_at(message, at, name_at(s, l, name));
-    write_at(message, a, after)
+    message.put(name_at(tape, name));
+    message.put(after);
 }
 
-// The front of a message: what stands before a name, the name, and what stands behind it.
-#[tactic(auto, using(crate::proofs::Writing::behind))]
-pub fn around(
-    message: &mut [u8],
-    before: &[u8],
-    s: &[u8],
-    l: Layout,
-    name: Name,
-    after: &[u8],
-) -> usize
-    ensures { Writes (before.now ∷ name_at s.now l name ∷ after.now ∷ []) (message_in message.old 0) (message_in message.new result) }
+// A number and what stands behind it.
+#[tactic(auto, using(crate::proofs::Writing::two_pieces))]
+pub fn numbered(message: &mut Message, n: u32, after: &[u8])
+    ensures { PutsAll (decimal n ∷ after.now ∷ []) message.old message.new }
 {
-    let a = write_at(message, 0, before);
-    named(message, a, s, l, name, after)
+    message.put_number(n);
+    message.put(after);
+}
+
+// What stands before a name, the name, and what stands behind it.
+#[tactic(auto, using(crate::proofs::Writing::behind))]
+pub fn around(message: &mut Message, before: &[u8], tape: &Tape, name: Name, after: &[u8])
+    ensures { PutsAll (before.now ∷ name_at tape.now.bytes.now tape.now.layout name ∷ after.now ∷ []) message.old message.new }
+{
+    message.put(before);
+    named(message, tape, name, after);
 }
 
 // The same with two names, which may be one name twice, and what stands between them.
 #[tactic(auto, using(crate::proofs::Writing::joined))]
 pub fn around_two(
-    message: &mut [u8],
+    message: &mut Message,
     before: &[u8],
-    s: &[u8],
-    l: Layout,
+    tape: &Tape,
     first: Name,
     between: &[u8],
     second: Name,
     after: &[u8],
-) -> usize
-    ensures { Writes (before.now ∷ name_at s.now l first ∷ between.now ∷ name_at s.now l second ∷ after.now ∷ []) (message_in message.old 0) (message_in message.new result) }
+)
+    ensures { PutsAll (before.now ∷ name_at tape.now.bytes.now tape.now.layout first ∷ between.now ∷ name_at tape.now.bytes.now tape.now.layout second ∷ after.now ∷ []) message.old message.new }
 {
-    let a = around(message, before, s, l, first, between);
-    named(message, a, s, l, second, after)
+    around(message, before, tape, first, between);
+    named(message, tape, second, after);
 }

@@ -3,92 +3,76 @@
 
 ghost use Rattle.definition.specs.Messages.{stray_condition, stray_within, stray_slot, stray_field, stray_operand};
 ghost use Rattle.nodes.specs.Node.{name_at};
-ghost use Rattle.buffer.specs.Buffer.{message_in, Written};
-ghost use Rattle.message_parts.specs.Write.{Writes};
+ghost use Rattle.buffer.specs.Message.{Puts};
+ghost use Rattle.message_parts.specs.Write.{PutsAll};
 ghost use Rattle.message_places.specs.Words.{sigil_of, stray_pieces};
 
+use buffer::message::Message;
 use message_parts::around;
 use nodes::{Name, Sigil};
-use tape::layout::Layout;
+use tape::layout::Tape;
 
 // The sigil with its name, and where it stands.
-fn stray(message: &mut [u8], sigil: Sigil, s: &[u8], l: Layout, name: Name, place: &[u8]) -> usize
-    ensures { Writes (stray_pieces (sigil_of sigil) (name_at s.now l name) place.now) (message_in message.old 0) (message_in message.new result) }
+fn stray(message: &mut Message, sigil: Sigil, tape: &Tape, name: Name, place: &[u8])
+    ensures { PutsAll (stray_pieces (sigil_of sigil) (name_at tape.now.bytes.now tape.now.layout name) place.now) message.old message.new }
 {
-    match sigil {
-        Sigil::Param => around(
-            message,
-            b"stray macro parameter reference `?",
-            s,
-            l,
-            name,
-            place,
-        ),
-        Sigil::Binder => around(
-            message,
-            b"stray macro binder reference `$",
-            s,
-            l,
-            name,
-            place,
-        ),
-    }
+    let before: &[u8] = match sigil {
+        Sigil::Param => b"stray macro parameter reference `?",
+        Sigil::Binder => b"stray macro binder reference `$",
+    };
+    around(message, before, tape, name, place);
 }
 
-pub fn stray_condition(message: &mut [u8], sigil: Sigil, s: &[u8], l: Layout, name: Name) -> usize
-    ensures { Written message.old message.new result (stray_condition (sigil_of sigil) (name_at s.now l name)) }
+pub fn stray_condition(message: &mut Message, sigil: Sigil, tape: &Tape, name: Name)
+    ensures { Puts (stray_condition (sigil_of sigil) (name_at tape.now.bytes.now tape.now.layout name)) message.old message.new }
 {
-    stray(message, sigil, s, l, name, b"` outside a macro body")
+    stray(message, sigil, tape, name, b"` outside a macro body");
 }
 
-pub fn stray_within(message: &mut [u8], s: &[u8], l: Layout, name: Name) -> usize
-    ensures { Written message.old message.new result (stray_within (name_at s.now l name)) }
+pub fn stray_within(message: &mut Message, tape: &Tape, name: Name)
+    ensures { Puts (stray_within (name_at tape.now.bytes.now tape.now.layout name)) message.old message.new }
 {
     stray(
         message,
         Sigil::Param,
-        s,
-        l,
+        tape,
         name,
         b"` in a `within` position outside a macro body",
-    )
+    );
 }
 
-pub fn stray_slot(message: &mut [u8], sigil: Sigil, s: &[u8], l: Layout, name: Name) -> usize
-    ensures { Written message.old message.new result (stray_slot (sigil_of sigil) (name_at s.now l name)) }
+pub fn stray_slot(message: &mut Message, sigil: Sigil, tape: &Tape, name: Name)
+    ensures { Puts (stray_slot (sigil_of sigil) (name_at tape.now.bytes.now tape.now.layout name)) message.old message.new }
 {
     stray(
         message,
         sigil,
-        s,
-        l,
+        tape,
         name,
         b"` in a binder position outside a macro body",
-    )
+    );
 }
 
-pub fn stray_field(message: &mut [u8], sigil: Sigil, s: &[u8], l: Layout, name: Name) -> usize
-    ensures { Written message.old message.new result (stray_field (sigil_of sigil) (name_at s.now l name)) }
+pub fn stray_field(message: &mut Message, sigil: Sigil, tape: &Tape, name: Name)
+    ensures { Puts (stray_field (sigil_of sigil) (name_at tape.now.bytes.now tape.now.layout name)) message.old message.new }
 {
     stray(
         message,
         sigil,
-        s,
-        l,
+        tape,
         name,
         b"` in a predicate-argument position outside a macro body",
-    )
+    );
 }
 
-pub fn stray_operand(message: &mut [u8], sigil: Sigil, s: &[u8], l: Layout, name: Name) -> usize
-    ensures { Written message.old message.new result (stray_operand (sigil_of sigil) (name_at s.now l name)) }
+pub fn stray_operand(message: &mut Message, sigil: Sigil, tape: &Tape, name: Name)
+    ensures { Puts (stray_operand (sigil_of sigil) (name_at tape.now.bytes.now tape.now.layout name)) message.old message.new }
 {
     stray(
         message,
         sigil,
-        s,
-        l,
+        tape,
         name,
         b"` in a comparison-operand position outside a macro body",
-    )
+    );
 }

@@ -2,10 +2,12 @@
 #![tactic(auto)]
 
 ghost use Rattle.std.specs.Prelude.{◌≡◌, length};
-ghost use Rattle.buffer.specs.Buffer.{message_in, Written};
+ghost use Rattle.buffer.specs.Buffer.{message_in};
+ghost use Rattle.buffer.specs.Message.{Puts};
 ghost use Rattle.messages.specs.Reason.{number_of, refused_at, message_of};
 ghost use Rattle.messages.specs.Write.{filled};
 
+use buffer::message::Message;
 use buffer::zero_from;
 use message_calls::body::{
     duplicate_definition, macro_in_macro, plain_identifier, reserved_name, undeclared_parameter,
@@ -22,7 +24,7 @@ use message_places::stray::{
     stray_condition, stray_field, stray_operand, stray_slot, stray_within,
 };
 use nodes::{Name, Refusal, Sigil, Span, span_of};
-use tape::layout::{Layout, Place};
+use tape::layout::{Place, Tape};
 
 // Why an input is refused. A name is one of the definition's tape (a registry's too), or of the call's (a condition's too).
 #[derive(Clone, Copy, Debug, PartialEq, Eq)]
@@ -138,51 +140,46 @@ pub fn number(reason: Reason) -> u32
 
 // Writes the message of a refusal and zeros behind it, as far as the buffer reaches, and answers the message's length.
 #[tactic(auto, using(crate::proofs::Filling::fills))]
-pub fn write(
-    definition: &[u8],
-    d: Layout,
-    call: &[u8],
-    c: Layout,
-    reason: Reason,
-    message: &mut [u8],
-) -> usize
-    ensures { message_in message.new result ≡ filled (length message.old) (message_of definition.now d call.now c reason) }
+pub fn write(definition: &Tape, call: &Tape, reason: Reason, message: &mut [u8]) -> usize
+    ensures { message_in message.new result ≡ filled (length message.old) (message_of definition.now.bytes.now definition.now.layout call.now.bytes.now call.now.layout reason) }
 {
-    let n = said(definition, d, call, c, reason, message);
-    zero_from(message, n);
-    n
+    let mut said = Message::new(message);
+    say(&mut said, definition, call, reason);
+    let end = said.len;
+    zero_from(message, end);
+    end
 }
 
-// The message alone: s is the definition's tape, laid out as d, and t the call's, laid out as c.
-#[tactic(auto, using(message_parts::proofs::Writing::write_nothing), unfolding(crate::specs::Reason::message_of))]
-fn said(s: &[u8], d: Layout, t: &[u8], c: Layout, reason: Reason, m: &mut [u8]) -> usize
-    ensures { Written m.old m.new result (message_of s.now d t.now c reason) }
+// The message alone. Behind an empty piece a message ends within its buffer too, as behind every other.
+#[tactic(auto, unfolding(crate::specs::Reason::message_of))]
+fn say(m: &mut Message, definition: &Tape, call: &Tape, reason: Reason)
+    ensures { Puts (message_of definition.now.bytes.now definition.now.layout call.now.bytes.now call.now.layout reason) m.old m.new }
 {
     match reason {
-        Reason::WithoutMessage(_) => 0,
-        Reason::Reserved(n) => reserved_name(m, s, d, n),
-        Reason::Duplicate(n, span) => duplicate_definition(m, s, d, n, span),
-        Reason::Undeclared(n, params, count) => undeclared_parameter(m, s, d, n, params, count),
-        Reason::PlainIdentifier(n) => plain_identifier(m, s, d, n),
+        Reason::WithoutMessage(_) => m.put(b""),
+        Reason::Reserved(n) => reserved_name(m, definition, n),
+        Reason::Duplicate(n, span) => duplicate_definition(m, definition, n, span),
+        Reason::Undeclared(n, params, k) => undeclared_parameter(m, definition, n, params, k),
+        Reason::PlainIdentifier(n) => plain_identifier(m, definition, n),
         Reason::MacroInMacro => macro_in_macro(m),
-        Reason::UnknownMacro(n) => unknown_macro(m, t, c, n),
-        Reason::CedarInCondition(n) => cedar_in_condition(m, t, c, n),
-        Reason::CedarInValue(n) => cedar_in_value(m, t, c, n),
-        Reason::ValueAsCondition(n) => value_as_condition(m, t, c, n),
-        Reason::ConditionAsValue(n) => condition_as_value(m, t, c, n),
-        Reason::ArgumentCount(n, wanted, got) => argument_count(m, s, d, n, wanted, got),
+        Reason::UnknownMacro(n) => unknown_macro(m, call, n),
+        Reason::CedarInCondition(n) => cedar_in_condition(m, call, n),
+        Reason::CedarInValue(n) => cedar_in_value(m, call, n),
+        Reason::ValueAsCondition(n) => value_as_condition(m, call, n),
+        Reason::ConditionAsValue(n) => condition_as_value(m, call, n),
+        Reason::ArgumentCount(n, wanted, got) => argument_count(m, definition, n, wanted, got),
         Reason::Budget(limit) => budget_exceeded(m, limit),
-        Reason::StrayCondition(g, n) => stray_condition(m, g, t, c, n),
-        Reason::StrayWithin(n) => stray_within(m, t, c, n),
-        Reason::StraySlot(g, n) => stray_slot(m, g, t, c, n),
-        Reason::StrayField(g, n) => stray_field(m, g, t, c, n),
-        Reason::StrayOperand(g, n) => stray_operand(m, g, t, c, n),
-        Reason::Unbound(f, n) => unbound_parameter(m, s, d, f, n),
-        Reason::NotACondition(f, n) => not_a_condition(m, s, d, f, n),
-        Reason::BinderAsCondition(n) => binder_as_condition(m, s, d, n),
-        Reason::NotAnInterval(f, n) => not_an_interval(m, s, d, f, n),
-        Reason::NotATerm(f, n) => not_a_term(m, s, d, f, n),
-        Reason::NotAnIdentifier(f, n) => not_an_identifier(m, s, d, f, n),
+        Reason::StrayCondition(g, n) => stray_condition(m, g, call, n),
+        Reason::StrayWithin(n) => stray_within(m, call, n),
+        Reason::StraySlot(g, n) => stray_slot(m, g, call, n),
+        Reason::StrayField(g, n) => stray_field(m, g, call, n),
+        Reason::StrayOperand(g, n) => stray_operand(m, g, call, n),
+        Reason::Unbound(f, n) => unbound_parameter(m, definition, f, n),
+        Reason::NotACondition(f, n) => not_a_condition(m, definition, f, n),
+        Reason::BinderAsCondition(n) => binder_as_condition(m, definition, n),
+        Reason::NotAnInterval(f, n) => not_an_interval(m, definition, f, n),
+        Reason::NotATerm(f, n) => not_a_term(m, definition, f, n),
+        Reason::NotAnIdentifier(f, n) => not_an_identifier(m, definition, f, n),
         Reason::NotAPredicate(code) => not_a_predicate(m, code),
     }
 }

@@ -10,7 +10,7 @@ ghost use Rattle.nodes.specs.Node.{span_of, has_entry, has_text, entry_at, expec
 
 use grammar::code;
 use grammar::kind::text_width;
-use tape::layout::{Layout, Place, code_at, value_at};
+use tape::layout::{Layout, Place, Tape};
 
 #[derive(Clone, Copy, Debug, PartialEq, Eq)]
 pub struct Span {
@@ -176,17 +176,17 @@ fn onward(p: Place, size: u64) -> Place
 
 // The entry at a place, with the next place, if the slice holds its code, its value and its text.
 #[tactic(auto, using(crate::proofs::Held::entry_held, crate::proofs::Held::text_held), unfolding(crate::specs::Node::entry_at))]
-pub fn entry(s: &[u8], l: Layout, p: Place) -> Option<(u8, u64, Place)>
-    ensures { result ≡ entry_at s.now l p }
+pub fn entry(tape: &Tape, p: Place) -> Option<(u8, u64, Place)>
+    ensures { result ≡ entry_at tape.now.bytes.now tape.now.layout p }
 {
     let at = p.at;
-    if !has_entry(s.len(), l, at) {
+    if !has_entry(tape.bytes.len(), tape.layout, at) {
         return None;
     }
-    let code = code_at(s, l, at);
-    let value = value_at(s, l, at);
+    let code = tape.code_at(at);
+    let value = tape.value_at(at);
     let size = text_width(code, value);
-    if !has_text(s.len(), l, p, size) {
+    if !has_text(tape.bytes.len(), tape.layout, p, size) {
         return None;
     }
     Some((code, value, onward(p, size)))
@@ -194,73 +194,73 @@ pub fn entry(s: &[u8], l: Layout, p: Place) -> Option<(u8, u64, Place)>
 
 // The entry at a place, if it has this code. The code is looked at first, since a caller's is known and so is whether it has text.
 #[tactic(auto, using(crate::proofs::Held::entry_held, crate::proofs::Held::text_held, crate::proofs::Held::expect_none, crate::proofs::Held::expect_other, crate::proofs::Held::expect_past, crate::proofs::Held::expect_value))]
-pub fn expect(s: &[u8], l: Layout, p: Place, code: u8) -> Option<(u64, Place)>
-    ensures { result ≡ expect_at s.now l p code }
+pub fn expect(tape: &Tape, p: Place, code: u8) -> Option<(u64, Place)>
+    ensures { result ≡ expect_at tape.now.bytes.now tape.now.layout p code }
 {
     let at = p.at;
-    if !has_entry(s.len(), l, at) {
+    if !has_entry(tape.bytes.len(), tape.layout, at) {
         return None;
     }
-    if code_at(s, l, at) != code {
+    if tape.code_at(at) != code {
         return None;
     }
-    let value = value_at(s, l, at);
+    let value = tape.value_at(at);
     let size = text_width(code, value);
-    if !has_text(s.len(), l, p, size) {
+    if !has_text(tape.bytes.len(), tape.layout, p, size) {
         return None;
     }
     Some((value, onward(p, size)))
 }
 
 // The place behind an entry with this code.
-fn past(s: &[u8], l: Layout, p: Place, code: u8) -> Option<Place>
-    ensures { result ≡ past_entry_at s.now l code p }
+fn past(tape: &Tape, p: Place, code: u8) -> Option<Place>
+    ensures { result ≡ past_entry_at tape.now.bytes.now tape.now.layout code p }
 {
-    let (_, next) = expect(s, l, p, code)?;
+    let (_, next) = expect(tape, p, code)?;
     Some(next)
 }
 
 // The place behind `count` texts.
 #[tactic(auto, using(crate::proofs::Items::item_passed, crate::proofs::Items::item_missing, crate::proofs::Items::items_passed), unfolding(crate::specs::Node::past_texts_at))]
-fn past_texts(s: &[u8], l: Layout, p: Place, count: u64) -> Option<Place>
-    ensures { result ≡ past_texts_at s.now l p count }
+fn past_texts(tape: &Tape, p: Place, count: u64) -> Option<Place>
+    ensures { result ≡ past_texts_at tape.now.bytes.now tape.now.layout p count }
 {
     let mut q = p;
     for _ in 0..count {
-        q = past(s, l, q, code::TEXT)?;
+        q = past(tape, q, code::TEXT)?;
     }
     Some(q)
 }
 
 // The place of a predicate's fields: behind its own span, its namespace, action and kind.
 #[tactic(auto, unfolding(crate::specs::Node::past_heading_at))]
-fn past_heading(s: &[u8], l: Layout, p: Place) -> Option<Place>
-    ensures { result ≡ past_heading_at s.now l p }
+fn past_heading(tape: &Tape, p: Place) -> Option<Place>
+    ensures { result ≡ past_heading_at tape.now.bytes.now tape.now.layout p }
 {
-    let (_, list) = expect(s, l, p, code::SPAN)?;
-    let (count, texts) = expect(s, l, list, code::LIST)?;
-    let action = past_texts(s, l, texts, count)?;
-    past_texts(s, l, action, 2)
+    let (_, list) = expect(tape, p, code::SPAN)?;
+    let (count, texts) = expect(tape, list, code::LIST)?;
+    let action = past_texts(tape, texts, count)?;
+    past_texts(tape, action, 2)
 }
 
 // The place behind a binder's type.
 #[tactic(auto, unfolding(crate::specs::Node::past_type_at))]
-pub fn past_type(s: &[u8], l: Layout, p: Place) -> Option<Place>
-    ensures { result ≡ past_type_at s.now l p }
+pub fn past_type(tape: &Tape, p: Place) -> Option<Place>
+    ensures { result ≡ past_type_at tape.now.bytes.now tape.now.layout p }
 {
-    let (code, value, next) = entry(s, l, p)?;
+    let (code, value, next) = entry(tape, p)?;
     match code {
         code::TYPE_TIMEPOINT => Some(next),
-        code::TYPE_NAMED => past_texts(s, l, next, value),
+        code::TYPE_NAMED => past_texts(tape, next, value),
         _ => None,
     }
 }
 
 #[tactic(auto, unfolding(crate::specs::Node::condition_at, crate::specs::Node::refusal_of, crate::specs::Node::span_of))]
-pub fn read_condition(s: &[u8], l: Layout, p: Place) -> Result<(ConditionNode, Place), Refusal>
-    ensures { result ≡ condition_at s.now l p }
+pub fn read_condition(tape: &Tape, p: Place) -> Result<(ConditionNode, Place), Refusal>
+    ensures { result ≡ condition_at tape.now.bytes.now tape.now.layout p }
 {
-    let (code, value, next) = entry(s, l, p).ok_or(Refusal::MALFORMED)?;
+    let (code, value, next) = entry(tape, p).ok_or(Refusal::MALFORMED)?;
     match code {
         code::AND => Ok((ConditionNode::And(value), next)),
         code::OR => Ok((ConditionNode::Or(value), next)),
@@ -268,56 +268,46 @@ pub fn read_condition(s: &[u8], l: Layout, p: Place) -> Result<(ConditionNode, P
         code::FORMERLY => Ok((ConditionNode::Formerly(value), next)),
         code::PREVIOUS => Ok((ConditionNode::Previous(value), next)),
         code::SINCE => Ok((ConditionNode::Since(value), next)),
-        code::PREDICATE => read_predicate(s, l, next, value),
-        code::COMPARISON => read_comparison(s, l, next, value),
+        code::PREDICATE => read_predicate(tape, next, value),
+        code::COMPARISON => read_comparison(tape, next, value),
         code::EXISTS => Ok((ConditionNode::Exists(value), next)),
         code::TP => Ok((ConditionNode::Tp(value), next)),
         code::CALL => Ok((ConditionNode::Call(value), next)),
-        code::SIGIL_REF => read_sigil(s, l, next, value),
-        code::REFINE => read_refine(s, l, next, value),
+        code::SIGIL_REF => read_sigil(tape, next, value),
+        code::REFINE => read_refine(tape, next, value),
         _ => Err(Refusal::MALFORMED),
     }
 }
 
 #[tactic(auto, unfolding(crate::specs::Node::predicate_at, crate::specs::Node::refusal_of, crate::specs::Node::span_of))]
-fn read_predicate(
-    s: &[u8],
-    l: Layout,
-    p: Place,
-    span: u64,
-) -> Result<(ConditionNode, Place), Refusal>
-    ensures { result ≡ predicate_at s.now l p span }
+fn read_predicate(tape: &Tape, p: Place, span: u64) -> Result<(ConditionNode, Place), Refusal>
+    ensures { result ≡ predicate_at tape.now.bytes.now tape.now.layout p span }
 {
-    let next = past_heading(s, l, p).ok_or(Refusal::MALFORMED)?;
+    let next = past_heading(tape, p).ok_or(Refusal::MALFORMED)?;
     Ok((ConditionNode::Predicate(span), next))
 }
 
 #[tactic(auto, unfolding(crate::specs::Node::comparison_at, crate::specs::Node::refusal_of, crate::specs::Node::span_of))]
-fn read_comparison(
-    s: &[u8],
-    l: Layout,
-    p: Place,
-    span: u64,
-) -> Result<(ConditionNode, Place), Refusal>
-    ensures { result ≡ comparison_at s.now l p span }
+fn read_comparison(tape: &Tape, p: Place, span: u64) -> Result<(ConditionNode, Place), Refusal>
+    ensures { result ≡ comparison_at tape.now.bytes.now tape.now.layout p span }
 {
-    let (_, next) = expect(s, l, p, code::OPERATOR).ok_or(Refusal::MALFORMED)?;
+    let (_, next) = expect(tape, p, code::OPERATOR).ok_or(Refusal::MALFORMED)?;
     Ok((ConditionNode::Comparison(span), next))
 }
 
 #[tactic(auto, unfolding(crate::specs::Node::refine_at, crate::specs::Node::refusal_of, crate::specs::Node::span_of))]
-fn read_refine(s: &[u8], l: Layout, p: Place, span: u64) -> Result<(ConditionNode, Place), Refusal>
-    ensures { result ≡ refine_at s.now l p span }
+fn read_refine(tape: &Tape, p: Place, span: u64) -> Result<(ConditionNode, Place), Refusal>
+    ensures { result ≡ refine_at tape.now.bytes.now tape.now.layout p span }
 {
-    let (own, next) = expect(s, l, p, code::SPAN).ok_or(Refusal::MALFORMED)?;
+    let (own, next) = expect(tape, p, code::SPAN).ok_or(Refusal::MALFORMED)?;
     Ok((ConditionNode::Refine(span, own), next))
 }
 
 #[tactic(auto, unfolding(crate::specs::Node::sigil_at, crate::specs::Node::refusal_of, crate::specs::Node::span_of))]
-fn read_sigil(s: &[u8], l: Layout, p: Place, span: u64) -> Result<(ConditionNode, Place), Refusal>
-    ensures { result ≡ sigil_at s.now l p span }
+fn read_sigil(tape: &Tape, p: Place, span: u64) -> Result<(ConditionNode, Place), Refusal>
+    ensures { result ≡ sigil_at tape.now.bytes.now tape.now.layout p span }
 {
-    let (code, value, next) = entry(s, l, p).ok_or(Refusal::MALFORMED)?;
+    let (code, value, next) = entry(tape, p).ok_or(Refusal::MALFORMED)?;
     let name = named(p, value);
     match code {
         code::SIGIL_PARAM => Ok((ConditionNode::SigilRef(span, Sigil::Param, name), next)),
@@ -337,18 +327,18 @@ fn named(p: Place, size: u64) -> Name
 }
 
 #[tactic(auto, unfolding(crate::specs::Node::term_at, crate::specs::Node::refusal_of, crate::specs::Node::span_of))]
-pub fn read_term(s: &[u8], l: Layout, p: Place) -> Result<(TermNode, Place), Refusal>
-    ensures { result ≡ term_at s.now l p }
+pub fn read_term(tape: &Tape, p: Place) -> Result<(TermNode, Place), Refusal>
+    ensures { result ≡ term_at tape.now.bytes.now tape.now.layout p }
 {
-    let (code, value, next) = entry(s, l, p).ok_or(Refusal::MALFORMED)?;
+    let (code, value, next) = entry(tape, p).ok_or(Refusal::MALFORMED)?;
     let name = named(p, value);
     match code {
-        code::ENTITY => read_path(s, l, next, 2),
+        code::ENTITY => read_path(tape, next, 2),
         code::INTEGER | code::DECIMAL | code::STRING | code::BOOL | code::WILDCARD => Ok((
             TermNode::Plain,
             next,
         )),
-        code::CONTEXT_FIELD | code::SCOPE_FIELD => read_path(s, l, next, value),
+        code::CONTEXT_FIELD | code::SCOPE_FIELD => read_path(tape, next, value),
         code::VAR => Ok((TermNode::Var(name), next)),
         code::ARRAY => Ok((TermNode::Array(value), next)),
         code::AGG => Ok((TermNode::Agg, next)),
@@ -361,18 +351,18 @@ pub fn read_term(s: &[u8], l: Layout, p: Place) -> Result<(TermNode, Place), Ref
 
 // A term of `count` texts.
 #[tactic(auto, unfolding(crate::specs::Node::path_at, crate::specs::Node::refusal_of, crate::specs::Node::span_of))]
-fn read_path(s: &[u8], l: Layout, p: Place, count: u64) -> Result<(TermNode, Place), Refusal>
-    ensures { result ≡ path_at s.now l p count }
+fn read_path(tape: &Tape, p: Place, count: u64) -> Result<(TermNode, Place), Refusal>
+    ensures { result ≡ path_at tape.now.bytes.now tape.now.layout p count }
 {
-    let next = past_texts(s, l, p, count).ok_or(Refusal::MALFORMED)?;
+    let next = past_texts(tape, p, count).ok_or(Refusal::MALFORMED)?;
     Ok((TermNode::Plain, next))
 }
 
 #[tactic(auto, unfolding(crate::specs::Node::agg_at, crate::specs::Node::refusal_of, crate::specs::Node::span_of))]
-pub fn read_agg(s: &[u8], l: Layout, p: Place) -> Result<(AggNode, Place), Refusal>
-    ensures { result ≡ agg_at s.now l p }
+pub fn read_agg(tape: &Tape, p: Place) -> Result<(AggNode, Place), Refusal>
+    ensures { result ≡ agg_at tape.now.bytes.now tape.now.layout p }
 {
-    let (code, value, next) = entry(s, l, p).ok_or(Refusal::MALFORMED)?;
+    let (code, value, next) = entry(tape, p).ok_or(Refusal::MALFORMED)?;
     match code {
         code::SUM => Ok((AggNode::Sum(value), next)),
         code::COUNT => Ok((AggNode::Count(value), next)),
@@ -382,10 +372,10 @@ pub fn read_agg(s: &[u8], l: Layout, p: Place) -> Result<(AggNode, Place), Refus
 }
 
 #[tactic(auto, unfolding(crate::specs::Node::slot_at, crate::specs::Node::refusal_of, crate::specs::Node::span_of))]
-pub fn read_slot(s: &[u8], l: Layout, p: Place) -> Result<(SlotNode, Place), Refusal>
-    ensures { result ≡ slot_at s.now l p }
+pub fn read_slot(tape: &Tape, p: Place) -> Result<(SlotNode, Place), Refusal>
+    ensures { result ≡ slot_at tape.now.bytes.now tape.now.layout p }
 {
-    let (code, value, next) = entry(s, l, p).ok_or(Refusal::MALFORMED)?;
+    let (code, value, next) = entry(tape, p).ok_or(Refusal::MALFORMED)?;
     let name = named(p, value);
     match code {
         code::SLOT_NAME => Ok((SlotNode::Name(name), next)),
@@ -396,10 +386,10 @@ pub fn read_slot(s: &[u8], l: Layout, p: Place) -> Result<(SlotNode, Place), Ref
 }
 
 #[tactic(auto, unfolding(crate::specs::Node::within_at, crate::specs::Node::refusal_of, crate::specs::Node::span_of))]
-pub fn read_within(s: &[u8], l: Layout, p: Place) -> Result<(WithinNode, Place), Refusal>
-    ensures { result ≡ within_at s.now l p }
+pub fn read_within(tape: &Tape, p: Place) -> Result<(WithinNode, Place), Refusal>
+    ensures { result ≡ within_at tape.now.bytes.now tape.now.layout p }
 {
-    let (code, value, next) = entry(s, l, p).ok_or(Refusal::MALFORMED)?;
+    let (code, value, next) = entry(tape, p).ok_or(Refusal::MALFORMED)?;
     let name = named(p, value);
     match code {
         code::SECONDS | code::MINUTES | code::HOURS | code::DAYS | code::WEEKS => Ok((
@@ -413,12 +403,12 @@ pub fn read_within(s: &[u8], l: Layout, p: Place) -> Result<(WithinNode, Place),
 
 // A call (54) or a definition (60): its name and its list's count.
 #[tactic(auto, unfolding(crate::specs::Node::heading_at, crate::specs::Node::refusal_of, crate::specs::Node::span_of))]
-pub fn read_heading(s: &[u8], l: Layout, p: Place, code: u8) -> Result<(Heading, Place), Refusal>
-    ensures { result ≡ heading_at s.now l p code }
+pub fn read_heading(tape: &Tape, p: Place, code: u8) -> Result<(Heading, Place), Refusal>
+    ensures { result ≡ heading_at tape.now.bytes.now tape.now.layout p code }
 {
-    let (span, name) = expect(s, l, p, code).ok_or(Refusal::MALFORMED)?;
-    let (size, list) = expect(s, l, name, code::TEXT).ok_or(Refusal::MALFORMED)?;
-    let (count, next) = expect(s, l, list, code::LIST).ok_or(Refusal::MALFORMED)?;
+    let (span, name) = expect(tape, p, code).ok_or(Refusal::MALFORMED)?;
+    let (size, list) = expect(tape, name, code::TEXT).ok_or(Refusal::MALFORMED)?;
+    let (count, next) = expect(tape, list, code::LIST).ok_or(Refusal::MALFORMED)?;
     Ok((
         Heading {
             span,
@@ -430,10 +420,10 @@ pub fn read_heading(s: &[u8], l: Layout, p: Place, code: u8) -> Result<(Heading,
 }
 
 #[tactic(auto, unfolding(crate::specs::Node::argument_at, crate::specs::Node::refusal_of, crate::specs::Node::span_of))]
-pub fn read_argument(s: &[u8], l: Layout, p: Place) -> Result<(ArgNode, Place), Refusal>
-    ensures { result ≡ argument_at s.now l p }
+pub fn read_argument(tape: &Tape, p: Place) -> Result<(ArgNode, Place), Refusal>
+    ensures { result ≡ argument_at tape.now.bytes.now tape.now.layout p }
 {
-    let (code, _, next) = entry(s, l, p).ok_or(Refusal::MALFORMED)?;
+    let (code, _, next) = entry(tape, p).ok_or(Refusal::MALFORMED)?;
     match code {
         code::ARG_CONDITION => Ok((ArgNode::Condition, next)),
         code::ARG_TERM => Ok((ArgNode::Term, next)),
@@ -443,11 +433,11 @@ pub fn read_argument(s: &[u8], l: Layout, p: Place) -> Result<(ArgNode, Place), 
 }
 
 #[tactic(auto, unfolding(crate::specs::Node::param_at))]
-pub fn read_param(s: &[u8], l: Layout, p: Place) -> Option<(Name, Place)>
-    ensures { result ≡ param_at s.now l p }
+pub fn read_param(tape: &Tape, p: Place) -> Option<(Name, Place)>
+    ensures { result ≡ param_at tape.now.bytes.now tape.now.layout p }
 {
-    let (_, at) = expect(s, l, p, code::SPAN)?;
-    let (size, next) = expect(s, l, at, code::TEXT)?;
+    let (_, at) = expect(tape, p, code::SPAN)?;
+    let (size, next) = expect(tape, at, code::TEXT)?;
     Some((
         Name {
             text: at.text,
@@ -458,30 +448,30 @@ pub fn read_param(s: &[u8], l: Layout, p: Place) -> Option<(Name, Place)>
 }
 
 // The place behind a parameter: its span and its name.
-fn past_param(s: &[u8], l: Layout, p: Place) -> Option<Place>
-    ensures { result ≡ past_param_at s.now l p }
+fn past_param(tape: &Tape, p: Place) -> Option<Place>
+    ensures { result ≡ past_param_at tape.now.bytes.now tape.now.layout p }
 {
-    let name = past(s, l, p, code::SPAN)?;
-    past(s, l, name, code::TEXT)
+    let name = past(tape, p, code::SPAN)?;
+    past(tape, name, code::TEXT)
 }
 
 // The place behind `count` parameters.
 #[tactic(auto, using(crate::proofs::Items::item_passed, crate::proofs::Items::item_missing, crate::proofs::Items::items_passed), unfolding(crate::specs::Node::past_params_at))]
-pub fn past_params(s: &[u8], l: Layout, p: Place, count: u64) -> Option<Place>
-    ensures { result ≡ past_params_at s.now l p count }
+pub fn past_params(tape: &Tape, p: Place, count: u64) -> Option<Place>
+    ensures { result ≡ past_params_at tape.now.bytes.now tape.now.layout p count }
 {
     let mut q = p;
     for _ in 0..count {
-        q = past_param(s, l, q)?;
+        q = past_param(tape, q)?;
     }
     Some(q)
 }
 
 #[tactic(auto, unfolding(crate::specs::Node::body_at, crate::specs::Node::refusal_of, crate::specs::Node::span_of))]
-pub fn read_body(s: &[u8], l: Layout, p: Place) -> Result<(BodyNode, Place), Refusal>
-    ensures { result ≡ body_at s.now l p }
+pub fn read_body(tape: &Tape, p: Place) -> Result<(BodyNode, Place), Refusal>
+    ensures { result ≡ body_at tape.now.bytes.now tape.now.layout p }
 {
-    let (code, _, next) = entry(s, l, p).ok_or(Refusal::MALFORMED)?;
+    let (code, _, next) = entry(tape, p).ok_or(Refusal::MALFORMED)?;
     match code {
         code::BODY_CEDAR => Ok((BodyNode::Cedar, next)),
         code::BODY_CONDITION => Ok((BodyNode::Condition, next)),
@@ -492,23 +482,23 @@ pub fn read_body(s: &[u8], l: Layout, p: Place) -> Result<(BodyNode, Place), Ref
 
 // The text that spells a name, or nothing where it runs past the slice's end.
 #[tactic(auto, unfolding(crate::specs::Node::name_at))]
-pub fn name_at(s: &[u8], l: Layout, name: Name) -> &[u8]
-    ensures { result.now ≡ name_at s.now l name }
+pub fn name_at<'a>(tape: &Tape<'a>, name: Name) -> &'a [u8]
+    ensures { result.now ≡ name_at tape.now.bytes.now tape.now.layout name }
 {
-    let len = s.len();
-    let text = l.text;
+    let len = tape.bytes.len();
+    let text = tape.layout.text;
     if len < text {
-        return &s[0..0];
+        return &tape.bytes[0..0];
     }
     let room = len - text;
     let from = name.text;
     let size = name.size;
     if room < from {
-        return &s[0..0];
+        return &tape.bytes[0..0];
     }
     if room - from < size {
-        return &s[0..0];
+        return &tape.bytes[0..0];
     }
     let start = text + from;
-    &s[start..start + size]
+    &tape.bytes[start..start + size]
 }

@@ -67,11 +67,6 @@ module _ (s : List ℕ) (l : Layout) (before : List ℕ) {fits : Bool} {after : 
       let p : after ≡ before = w.1 ∙ rw f refl in
       rw f (rw p at e)
 
-pub answered_rewritten : (s zeros : List ℕ) (l : Layout) (n : ℕ) {m : Layout} {t : List ℕ} (a : Answer)
-    → (m ≡ rewritten_layout s l) × (t ≡ rewritten_in s l zeros) → AnswersOlder t m n a
-    → AnswersOlder (rewritten_in s l zeros) (rewritten_layout s l) n a
-answered_rewritten s zeros l n a p k = rw (← p.0, ← p.1) k
-
 -- ------------------------------------------------------------------ a short buffer, and a tape that is refused
 
 pub short : (n : ℕ) (s : List ℕ) {a : Answer} → n < 12296 → a ≡ ended (result_alone n) (number_alone 1) → a ≡ older_answer n s

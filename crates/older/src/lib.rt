@@ -9,19 +9,19 @@ ghost use Rattle.answer.specs.Matches.{answer_with};
 ghost use Rattle.older.specs.Roots.{sort_of, AnswersOlder};
 
 use answer::{Answer, refuse_result, result_written};
-use de_morgan::{none_on, rewrite};
+use de_morgan::{none_on, rewritten_in};
 use grammar::code;
 use grammar::codes::{CALL, CONDITION, DEFINITION, DEFINITIONS, TERM};
 use tape::accept::accept;
-use tape::layout::Layout;
+use tape::layout::Tape;
 use weeks::write_older;
 
 // The code of the first entry, which stands behind the two sizes; 0, which is no code, in a slice that ends there.
 #[tactic(auto, using(crate::proofs::Roots::first_there))]
-fn first_code(tape: &[u8]) -> u8
-    ensures { result ≡ first_code tape.now }
+fn first_code(bytes: &[u8]) -> u8
+    ensures { result ≡ first_code bytes.now }
 {
-    tape.get(8).copied().unwrap_or(0)
+    bytes.get(8).copied().unwrap_or(0)
 }
 
 // The sort of the root that a first code tells; 0, of which no code is, where it tells none.
@@ -41,37 +41,40 @@ fn root_sort(code: u8) -> u64
 
 // The older tape of what stands at a layout, and zeros behind it; 52 if an amount leaves the range.
 #[tactic(auto, using(crate::proofs::Operation::in_written, crate::proofs::Operation::in_refused))]
-fn older_in(tape: &[u8], l: Layout, res: &mut [u8]) -> Answer
-    ensures { AnswersOlder tape.now l (length res.old) (answer_with result res.new [] []) }
+fn older_in(tape: &Tape, res: &mut [u8]) -> Answer
+    ensures { AnswersOlder tape.now.bytes.now tape.now.layout (length res.old) (answer_with result res.new [] []) }
 {
-    if write_older(tape, l, res) {
+    if write_older(tape, res) {
         result_written()
     } else {
-        refuse_result(52, res)
+        refuse_result(numbers::AMOUNT_TOO_LONG, res)
     }
 }
 
 // The same of the rewritten tape, for which there is room here: most tapes have no Or.
-#[tactic(auto, using(crate::proofs::Operation::answered_rewritten))]
-fn older_rewritten(tape: &[u8], l: Layout, res: &mut [u8]) -> Answer
-    ensures { AnswersOlder (rewritten_in tape.now l (replicate 12296 0)) (rewritten_layout tape.now l) (length res.old) (answer_with result res.new [] []) }
+fn older_rewritten(tape: &Tape, res: &mut [u8]) -> Answer
+    ensures { AnswersOlder (rewritten_in tape.now.bytes.now tape.now.layout (replicate 12296 0)) (rewritten_layout tape.now.bytes.now tape.now.layout) (length res.old) (answer_with result res.new [] []) }
 {
-    let mut rewritten = [0u8; 12296];
-    let m = rewrite(tape, l, &mut rewritten);
-    older_in(&rewritten, m, res)
+    older_in(&rewritten_in(tape, &mut [0u8; 12296]), res)
 }
 
 // The operation: the answer and every byte of the result buffer are what the definition says, for every slice and every buffer.
 #[tactic(auto, using(format::proofs::Accepted::bytes_all, crate::proofs::Operation::short, crate::proofs::Operation::refused, crate::proofs::Operation::given, crate::proofs::Operation::sort_told))]
-pub fn older(tape: &[u8], res: &mut [u8]) -> Answer
-    ensures { answer_with result res.new [] [] ≡ older_answer (length res.old) tape.now }
+pub fn older(bytes: &[u8], res: &mut [u8]) -> Answer
+    ensures { answer_with result res.new [] [] ≡ older_answer (length res.old) bytes.now }
 {
     if res.len() < 12296 {
-        return refuse_result(1, res);
+        return refuse_result(numbers::SHORT_BUFFER, res);
     }
-    match accept(tape, root_sort(first_code(tape))) {
-        Ok(l) if none_on(tape, l) => older_in(tape, l, res),
-        Ok(l) => older_rewritten(tape, l, res),
+    match accept(bytes, root_sort(first_code(bytes))) {
+        Ok(layout) => {
+            let tape = Tape { bytes, layout };
+            if none_on(&tape) {
+                older_in(&tape, res)
+            } else {
+                older_rewritten(&tape, res)
+            }
+        }
         Err(fault) => refuse_result(fault.number(), res),
     }
 }

@@ -34,12 +34,6 @@ use Rattle.answer.proofs.Operations.{refused_tape, read_rewritten}
 use Rattle.profile.specs.Entries.{profile_in, profiled}
 use Rattle.profile.proofs.Standing.{profile_stands}
 
--- what was found on the tape that was written
-pub rewritten_profiled : (s zeros : List ℕ) (l : Layout) {m : Layout} {t : List ℕ} {a : Answer}
-    → (m ≡ rewritten_layout s l) × (t ≡ rewritten_in s l zeros) → a ≡ profiled (profile_in t m)
-    → a ≡ profiled (profile_in (rewritten_in s l zeros) (rewritten_layout s l))
-rewritten_profiled s zeros l p k = rw (← p.0, ← p.1) k
-
 -- names of up to 81 bytes
 root_81 : RootNamed 81 (named_root 81) grammar.condition
 root_81 = named_root_lem 81 refl

@@ -16,7 +16,7 @@ use grammar::codes::TERM;
 use grammar::provider::{ARGUMENT, ROOT, table};
 use tape::accept::{accept, accept_by};
 use tape::header::Fault;
-use tape::layout::Layout;
+use tape::layout::{Layout, Tape};
 use tape::part::part_of;
 
 mod argument;
@@ -70,8 +70,8 @@ fn turned_code(way: Way, code: u8) -> Option<u8>
 fn any_lost(way: Way, codes: &[u8]) -> bool
     ensures { result ≡ any_lost way codes.now }
 {
-    for code in codes {
-        if turned_code(way, *code).is_none() {
+    for &code in codes {
+        if turned_code(way, code).is_none() {
             return true;
         }
     }
@@ -89,40 +89,40 @@ fn write_codes(way: Way, codes: &[u8], res: &mut [u8])
 }
 
 // Writes the tape with its codes turned, every value and the text as they are, and zeros behind it.
-fn write_turned(way: Way, tape: &[u8], codes: &[u8], res: &mut [u8])
-    ensures { res.new ≡ turned_on res.old tape.now (map (turned_or_0 way) codes.now) }
+fn write_turned(way: Way, bytes: &[u8], codes: &[u8], res: &mut [u8])
+    ensures { res.new ≡ turned_on res.old bytes.now (map (turned_or_0 way) codes.now) }
 {
-    write(res, 0, tape);
-    zero_from(res, tape.len());
+    write(res, 0, bytes);
+    zero_from(res, bytes.len());
     write_codes(way, codes, res);
 }
 
 // The answer of a tape turned; or a number, where one of its codes becomes none.
 #[tactic(auto, using(crate::proofs::Operation::in_lost, crate::proofs::Operation::in_turned))]
-fn turn(way: Way, number: u32, tape: &[u8], l: Layout, res: &mut [u8]) -> Answer
-    ensures { AnswersTurned way number tape.now l (length res.old) (answer_with result res.new [] []) }
+fn turn(way: Way, number: u32, tape: &Tape, res: &mut [u8]) -> Answer
+    ensures { AnswersTurned way number tape.now.bytes.now tape.now.layout (length res.old) (answer_with result res.new [] []) }
 {
-    let codes = part_of(tape, l.codes, l.entries);
+    let codes = part_of(tape.bytes, tape.layout.codes, tape.layout.entries);
     if any_lost(way, codes) {
         return refuse_result(number, res);
     }
-    write_turned(way, tape, codes, res);
+    write_turned(way, tape.bytes, codes, res);
     result_written()
 }
 
 // The acceptance of a provider tape whose root is of a sort. The longest text has 64 bytes, or 255.
-fn accept_provider(tape: &[u8], sort: u64) -> Result<Layout, Fault>
-    ensures { result ≡ accept_by provider_words 64 tape.now sort }
+fn accept_provider(bytes: &[u8], sort: u64) -> Result<Layout, Fault>
+    ensures { result ≡ accept_by provider_words 64 bytes.now sort }
 {
     let grammar = table();
-    accept_by(&grammar, 64, tape, sort)
+    accept_by(&grammar, 64, bytes, sort)
 }
 
 // The operation without buffers: whether the tape is one of a provider call or of a lone argument.
-pub fn provider(tape: &[u8]) -> Answer
-    ensures { answer_with result [] [] [] ≡ provider_answer tape.now }
+pub fn provider(bytes: &[u8]) -> Answer
+    ensures { answer_with result [] [] [] ≡ provider_answer bytes.now }
 {
-    match accept_provider(tape, ROOT) {
+    match accept_provider(bytes, ROOT) {
         Ok(_) => result_written(),
         Err(fault) => refuse_result(fault.number(), &mut []),
     }
@@ -130,14 +130,19 @@ pub fn provider(tape: &[u8]) -> Answer
 
 // The operation: the answer and every byte of the result buffer are what the definition says, for every slice and every buffer.
 #[tactic(auto, using(format::proofs::Accepted::bytes_all, crate::proofs::Operation::argument_short, crate::proofs::Operation::argument_given, crate::proofs::Operation::argument_refused))]
-pub fn argument_to_term(tape: &[u8], res: &mut [u8]) -> Answer
-    ensures { answer_with result res.new [] [] ≡ argument_to_term_answer (length res.old) tape.now }
+pub fn argument_to_term(bytes: &[u8], res: &mut [u8]) -> Answer
+    ensures { answer_with result res.new [] [] ≡ argument_to_term_answer (length res.old) bytes.now }
 {
     if res.len() < 12296 {
-        return refuse_result(1, res);
+        return refuse_result(numbers::SHORT_BUFFER, res);
     }
-    match accept_provider(tape, ARGUMENT) {
-        Ok(l) => turn(Way::ToTerm, 56, tape, l, res),
+    match accept_provider(bytes, ARGUMENT) {
+        Ok(layout) => turn(
+            Way::ToTerm,
+            numbers::FIELD_IN_AN_ARGUMENT,
+            &Tape { bytes, layout },
+            res,
+        ),
         Err(fault) => refuse_result(fault.number(), res),
     }
 }
@@ -145,14 +150,19 @@ pub fn argument_to_term(tape: &[u8], res: &mut [u8]) -> Answer
 // And back. A term that holds an Or holds an aggregate, which no argument becomes: it need not be rewritten, and acceptance has decided
 // the figures of its rewriting.
 #[tactic(auto, using(format::proofs::Accepted::bytes_all, crate::proofs::Operation::term_short, crate::proofs::Operation::term_given, crate::proofs::Operation::term_refused))]
-pub fn term_to_argument(tape: &[u8], res: &mut [u8]) -> Answer
-    ensures { answer_with result res.new [] [] ≡ term_to_argument_answer (length res.old) tape.now }
+pub fn term_to_argument(bytes: &[u8], res: &mut [u8]) -> Answer
+    ensures { answer_with result res.new [] [] ≡ term_to_argument_answer (length res.old) bytes.now }
 {
     if res.len() < 12296 {
-        return refuse_result(1, res);
+        return refuse_result(numbers::SHORT_BUFFER, res);
     }
-    match accept(tape, TERM) {
-        Ok(l) => turn(Way::ToArgument, 58, tape, l, res),
+    match accept(bytes, TERM) {
+        Ok(layout) => turn(
+            Way::ToArgument,
+            numbers::NO_ARGUMENT,
+            &Tape { bytes, layout },
+            res,
+        ),
         Err(fault) => refuse_result(fault.number(), res),
     }
 }

@@ -1,6 +1,5 @@
 -- The laws that several proofs of the crate cite.
 mod Codes
-pub mod Tables
 pub mod Steps
 pub mod Standing
 pub mod Verdicts

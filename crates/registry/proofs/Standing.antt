@@ -32,7 +32,8 @@ use Rattle.tape.proofs.Located.{past, past_at, Inside, inside_next, Alone}
 use Rattle.tape.proofs.Runs.{place, run_code, run_value}
 use Rattle.nodes.proofs.Entries.{is_spelled}
 use Rattle.nodes.proofs.Placed.{parts_def, parts_defs}
-use Rattle.registry.specs.Places.{Row, key_of, end_of, cons_if, key_at, rows_from, index_at, get_at}
+use Rattle.registry.specs.Places.{key_of, end_of, cons_if, key_at, rows_from, index_at, get_at}
+use Rattle.registry.specs.declared.rows.Row.{Row}
 use Rattle.tape.proofs.Holding.{holding}
 use Rattle.registry.proofs.Codes.{Inner, inner_params, inner_body}
 

@@ -29,7 +29,8 @@ use Rattle.messages.specs.Reason.{refused_at, message_of}
 use Rattle.messages.specs.declared.Reason.TheVariants.{Reserved}
 use Rattle.message_parts.proofs.Order.{eq_refl}
 use Rattle.answer.specs.Matches.{VerdictMatches}
-use Rattle.registry.specs.Places.{Row, duplicate_of, and_then_in, check_at, build_from_at, build_at}
+use Rattle.registry.specs.Places.{duplicate_of, and_then_in, check_at, build_from_at, build_at}
+use Rattle.registry.specs.declared.rows.Row.{Row}
 use Rattle.registry.proofs.Standing.{Indexed, indexed_nil, indexed_cons, indexed_snoc, Finds, finds_nothing, finds, get_finds}
 
 -- ------------------------------------------------------------------ the order of the definitions before

@@ -1,7 +1,7 @@
 -- A registry by the places of its definitions: where they stand, the one that a name finds, and the first name that is refused.
 -- Assumes nothing.
 use Rattle.messages.specs.declared.Refused.{Refused}
-use Rattle.std.specs.Prelude.{ℕ, zero, suc, ◌+◌, ◌*◌, ◌-◌, ◌/◌, ◌%◌, ◌≤◌, ◌<◌, ◌≡◌, List, [], ◌∷◌, ◌++◌, Bool, true, false, leb, eqb, length, take, drop, get_or, Option, Some, None, Result, Ok, Err}
+use Rattle.std.specs.Prelude.{ℕ, zero, suc, ◌+◌, ◌*◌, ◌%◌, List, [], ◌∷◌, ◌++◌, Bool, true, false, leb, eqb, take, Option, Some, None, Result, Ok, Err}
 use Rattle.format.specs.Entry.{Text}
 use Rattle.definition.specs.Text.{eq_text}
 use Rattle.definition.specs.Check.{contains}
@@ -14,48 +14,9 @@ use Rattle.tape.specs.declared.layout.Place.{Place}
 use Rattle.nodes.specs.declared.Heading.{Heading}
 use Rattle.messages.specs.Reason.{refused_at}
 use Rattle.messages.specs.declared.Reason.TheVariants.{WithoutMessage, Reserved, Duplicate}
+use Rattle.registry.specs.declared.rows.Row.{Row}
 
--- ------------------------------------------------------------------ a table of definitions
-
--- where a definition stands, and the key of its name
-pub record Row : Type 0 where
-  pub place : Place
-  pub key : ℕ
-
--- two numbers a row: an entry is below 2048, so that its number and the key are one
-unfoldable pub first_row : List ℕ → Row
-first_row table = record { place = record { at = get_or table 0 0 % 2048; text = get_or table 1 0 }; key = get_or table 0 0 / 2048 }
-
--- the first n rows of a table, as many as it has
-unfoldable pub rows_in : List ℕ → ℕ → List Row
-rows_in table zero = []
-rows_in table (suc n) = pick (leb 2 (length table)) (first_row table ∷ rows_in (drop 2 table) n) []
-
--- those between two numbers of a table
-abbrev pub rows_between : List ℕ → ℕ → ℕ → List Row
-rows_between table from end = rows_in (drop from table) ((end - from) / 2)
-
--- no row is cut there
-pub record Whole (table : List ℕ) (from end : ℕ) : Type 0 where
-  pub inside : end ≤ length table
-  pub even : (end - from) % 2 ≡ 0
-
--- the number behind the first n rows
-pub record Ends (table : List ℕ) (n end : ℕ) : Type 0 where
-  pub whole : Whole table 0 end
-  pub same : rows_between table 0 end ≡ rows_in table n
-
--- the rows from the first one on that has a key
-unfoldable pub from_key : ℕ → List Row → List Row
-from_key key [] = []
-from_key key (r ∷ rs) = pick (eqb r.key key) (r ∷ rs) (from_key key rs)
-
--- where they begin
-pub record FirstAt (table : List ℕ) (key from end at : ℕ) : Type 0 where
-  pub rows : rows_between table at end ≡ from_key key (rows_between table from end)
-  pub onward : from ≤ at
-  pub there : at < end → get_or table at 0 / 2048 ≡ key
-  pub even : (end - at) % 2 ≡ 0
+-- ------------------------------------------------------------------ names and places
 
 -- a name's key is made of its bytes, so that names with other keys are other names
 unfoldable pub key_from : ℕ → Text → ℕ

@@ -2,7 +2,7 @@
 // plain slices.
 #![tactic(auto)]
 
-ghost use Rattle.std.specs.Prelude.{◌≡◌, ◌/◌, length};
+ghost use Rattle.std.specs.Prelude.{◌≡◌, length};
 ghost use Rattle.definition.specs.Answers.{expand_answer};
 ghost use Rattle.definition.specs.Counts.{expand_counts};
 ghost use Rattle.grammar.specs.Grammar.{definitions};
@@ -16,9 +16,9 @@ use expansion::Expanded;
 use grammar::codes::DEFINITIONS;
 use nodes::Heading;
 use registry::counts::Counts;
-use registry::index;
+use registry::{Index, Row, index};
 use tape::accept::accept;
-use tape::layout::{Layout, Place, of_area};
+use tape::layout::{Layout, Place, Tape, of_area};
 
 // What building a registry came to: the operation's answer, and how an accepted tape is laid out. The state is none of it: it is the
 // caller's, who has it first from `registry::counts::fresh`, and then from each expansion.
@@ -28,7 +28,7 @@ pub struct Built {
     pub layout: Layout,
 }
 
-#[derive(Clone, Copy)]
+#[derive(Clone, Copy, Debug)]
 pub struct Registry<'a> {
     pub tape: &'a [u8],
     pub built: Built,
@@ -51,25 +51,17 @@ fn build(tape: &[u8], message: &mut [u8]) -> Built
     }
 }
 
-// The definition of a name, with a table at hand.
-fn find_in(
-    s: &[u8],
-    l: Layout,
-    name: &[u8],
-    places: &mut [usize],
-) -> Option<(Heading, Place, usize)>
-    ensures { result ≡ get_at s.now l (index_at s.now l (length places.old / 2)) name.now }
+// The definition of a name. A registry has 255 definitions at the most.
+fn find_at(tape: &Tape, name: &[u8]) -> Option<(Heading, Place, usize)>
+    ensures { result ≡ get_at tape.now.bytes.now tape.now.layout (index_at tape.now.bytes.now tape.now.layout 255) name.now }
 {
-    let count = index(s, l, places);
-    registry::get(s, l, places, count, name)
-}
-
-// The definition of a name. A registry has 255 definitions at the most, two numbers each.
-fn find_at(s: &[u8], l: Layout, name: &[u8]) -> Option<(Heading, Place, usize)>
-    ensures { result ≡ get_at s.now l (index_at s.now l 255) name.now }
-{
-    let mut places = [0usize; 510];
-    find_in(s, l, name, &mut places)
+    let mut rows = [Row::EMPTY; 255];
+    let count = index(tape, &mut rows);
+    let index = Index {
+        tape: *tape,
+        rows: &rows[..count],
+    };
+    index.get(name)
 }
 
 // The definition of a name in a registry that passed; one that did not holds none.
@@ -80,7 +72,11 @@ fn find(tape: &[u8], built: Built, name: &[u8]) -> Option<(Heading, Place, usize
     if refused {
         return None;
     }
-    find_at(tape, built.layout, name)
+    let tape = Tape {
+        bytes: tape,
+        layout: built.layout,
+    };
+    find_at(&tape, name)
 }
 
 // `Registry::build` of the Rust: the tape is accepted and its names are checked. The answer says whether; a registry whose number is

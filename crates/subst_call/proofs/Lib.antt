@@ -1,2 +1,3 @@
 -- The laws that several proofs of the crate cite.
+pub mod Measured
 pub mod TreesFront

@@ -9,6 +9,7 @@ use mathlib.Core.List.{List, [], ◌∷◌}
 use mathlib.Core.Bool.{Bool, true, false, not, ◌||◌}
 use lib.Dec.{eqb}
 use lib.ListN.{length, replicate}
+use Rattle.subst_state.specs.declared.maps.Argument.{Argument}
 use borrow.Author.Tests.{eqb-true, not-false}
 use Rattle.grammar.specs.Grammar as grammar
 use Rattle.format.specs.Entry.{Text, Entry, entry}
@@ -66,6 +67,7 @@ use Rattle.subst_call.specs.Front.{
   substitute_body_in,
   maps_for,
   table_of,
+  no_argument,
   call_in,
   origin,
   cedar_at,
@@ -221,8 +223,8 @@ module _ (dm : MacroDef) (span : ℕ) (name : Text) (args : CallArgs) (limit fil
 
   module _ (same : length_args args ≡ length dm.params) (few : length dm.params ≤ 16) where
     its_bound : Bound T maps
-    its_bound = bound_of dm span name args limit file (replicate 96 0) h g same
-        (let z : length {A = ℕ} (replicate 96 0) ≡ 96 = refl in omega arith)
+    its_bound = bound_of dm span name args limit file (replicate 16 no_argument) h g same
+        (let z : length {A = Argument} (replicate 16 no_argument) ≡ 16 = refl in omega arith)
 
     -- what a call becomes: the body's charge, the walk, and 3
     pub call_condition : (b : Condition) (k : ℕ) {P : Area} → Inside def l (body_start dm h) (flat_body (MacroBody.TemporalCondition b))

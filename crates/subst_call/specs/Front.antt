@@ -22,10 +22,11 @@ use Rattle.subst_state.specs.Output.{charged_for}
 use Rattle.subst_places.specs.Parameters.{Tapes, tapes}
 use Rattle.subst_walk.specs.Walkers.{walkers}
 use Rattle.subst_call.specs.declared.Macro.{Macro}
-use Rattle.subst_state.specs.declared.maps.SubstMaps.{SubstMaps}
-use Rattle.walk_state.specs.declared.writing.State.{State}
-use Rattle.walk_state.specs.declared.writing.Walk.{Walk}
-use Rattle.walk_state.specs.declared.writing.Walk.TheVariants as walk
+use Rattle.subst_state.specs.Maps.{SubstMaps}
+use Rattle.subst_state.specs.declared.maps.Argument.{Argument}
+use Rattle.walk_state.specs.Walk.{State}
+use Rattle.walk_state.specs.Walk.{Walk}
+use Rattle.walk_state.specs.Walk as walk
 
 -- ------------------------------------------------------------------ cases
 
@@ -95,9 +96,12 @@ maps_for d c limit file called head =
       file = file;
     }
 
--- the table of up to sixteen arguments
-abbrev pub table_of : List ℕ → Layout → Heading → Place → List ℕ
-table_of call c head first = table_from call c head.count first 0 (replicate 96 0)
+-- the table of up to sixteen arguments, before they are found
+abbrev pub no_argument : Argument
+no_argument = record { from = record { at = 0; text = 0 }; to = record { at = 0; text = 0 }; root = 0; size = 0 }
+
+abbrev pub table_of : List ℕ → Layout → Heading → Place → List Argument
+table_of call c head first = table_from call c head.count first 0 (replicate 16 no_argument)
 
 unfoldable pub call_in : List ℕ → Layout → List ℕ → Layout → (limit file : ℕ) → Macro → Heading → Place → ℕ → Writer → List ℕ → Progress
 call_in def d call c limit file called head first charged out bytes =

@@ -3,22 +3,21 @@
 #![tactic(auto)]
 
 ghost use Rattle.std.specs.Prelude.{◌≡◌};
-ghost use Rattle.subst_call.specs.Front.{macro_from, macro_at, wrong_count, charge_body_in, refuse_too_large_in, temporal_condition_in, temporal_value_in, substitute_body_in, call_in, tapes_in, cedar_at, counted_in};
-ghost use Rattle.walk_state.specs.Writing.{progress};
-ghost use Rattle.subst_places.specs.Parameters.{tapes};
+ghost use Rattle.walk_state.specs.Writing.{Walks, progress, state_at, going_at, came_to};
+ghost use Rattle.subst_state.specs.Maps.{maps_at};
+ghost use Rattle.subst_places.specs.Parameters.{tapes_of};
+ghost use Rattle.subst_call.specs.Front.{macro_from, macro_at, wrong_count, charge_body_in, refuse_too_large_in, temporal_condition_in, temporal_value_in, substitute_body_in, call_in, tapes_in};
 
-use area::{Writer, empty};
 use grammar::code;
 use grammar::codes::{CONDITION, TERM};
 use messages::{Reason, Refused, refuse};
 use nodes::{BodyNode, Heading, past_params, read_body, read_heading};
-use subst_state::maps::{SubstMaps, find_arguments};
-use subst_state::paste::charge_nodes;
+use subst_state::maps::{Argument, Substitution, find_arguments};
 use subst_walk::{subst_temporal_condition, subst_temporal_term};
-use tape::layout::{Layout, Place, of_area};
+use tape::layout::{Place, Tape};
 use tape::scan::too_deep;
 use tape::text::size;
-use walk_state::writing::{State, Walk, without_message};
+use walk_state::writing::Cursor;
 
 // A macro: its definition's head, where its parameters stand, the kind and the place of its body, and the entry behind it.
 #[derive(Clone, Copy, Debug, PartialEq, Eq)]
@@ -32,11 +31,11 @@ pub struct Macro {
 
 // The macro of a definition whose head was read, with the place of its parameters and the entry behind it. Expansion finds both in the
 // registry's index.
-pub fn macro_from(s: &[u8], l: Layout, head: Heading, params: Place, end: usize) -> Option<Macro>
-    ensures { result ≡ macro_from s.now l head params end }
+pub fn macro_from(tape: &Tape, head: Heading, params: Place, end: usize) -> Option<Macro>
+    ensures { result ≡ macro_from tape.now.bytes.now tape.now.layout head params end }
 {
-    let next = past_params(s, l, params, head.count)?;
-    let (kind, body) = read_body(s, l, next).ok()?;
+    let next = past_params(tape, params, head.count)?;
+    let (kind, body) = read_body(tape, next).ok()?;
     Some(Macro {
         head,
         params,
@@ -48,11 +47,11 @@ pub fn macro_from(s: &[u8], l: Layout, head: Heading, params: Place, end: usize)
 
 // The definition that stands at a place, and behind which nothing stands.
 #[tactic(auto, unfolding(crate::specs::Front::macro_at))]
-fn read_macro(s: &[u8], l: Layout, p: Place) -> Option<Macro>
-    ensures { result ≡ macro_at s.now l p }
+fn read_macro(tape: &Tape, p: Place) -> Option<Macro>
+    ensures { result ≡ macro_at tape.now.bytes.now tape.now.layout p }
 {
-    let (head, params) = read_heading(s, l, p, code::DEFINITION).ok()?;
-    macro_from(s, l, head, params, l.entries)
+    let (head, params) = read_heading(tape, p, code::DEFINITION).ok()?;
+    macro_from(tape, head, params, tape.layout.entries)
 }
 
 // 34 has the definition's name and the call's span.
@@ -67,110 +66,85 @@ pub fn wrong_count(def: Heading, call: Heading) -> Refused
 
 // The size of the body, which stands up to `end`, is charged.
 #[tactic(auto, unfolding(crate::specs::Front::charge_body_in))]
-fn charge_body(def: &[u8], m: SubstMaps, end: usize, st: State) -> Walk
-    ensures { result ≡ charge_body_in def.now m end st }
+fn charge_body(s: &Substitution, c: &mut Cursor, end: usize) -> Result<(), Refused>
+    ensures { Walks c.old c.new result (progress (charge_body_in s.now.definition.bytes.now (maps_at s.now) end (state_at c.old)) c.old.bytes.now) }
 {
-    let nodes = size(def, m.definition, st.place.at, end);
-    charge_nodes(m, nodes, st)
+    let nodes = size(&s.definition, c.place.at, end);
+    s.charge_nodes(c, nodes)
 }
 
 // 3, if what was written is over a largest figure.
 #[tactic(auto, unfolding(crate::specs::Front::refuse_too_large_in))]
-pub fn refuse_too_large(span: u64, sort: u64, buf: &[u8], w: Walk) -> Walk
-    ensures { progress result buf.now ≡ refuse_too_large_in span sort (progress w buf.now) }
+pub fn refuse_too_large(span: u64, sort: u64, c: &Cursor) -> Result<(), Refused>
+    ensures { came_to result c.now ≡ refuse_too_large_in span sort (going_at c.now) }
 {
-    let Walk::Going(st) = w else {
-        return w;
-    };
-    let out = st.out;
-    if out.overflowed || too_deep(buf, of_area(out.base, out.n, out.t), sort) {
-        return without_message(3, span, st.charged);
+    if c.out.overflowed || too_deep(&c.written(), sort) {
+        return Err(refuse(span, Reason::WithoutMessage(numbers::TOO_LARGE)));
     }
-    w
+    Ok(())
 }
 
-#[tactic(auto, unfolding(crate::specs::Front::temporal_condition_in))]
-fn substitute_temporal_condition<'a>(
-    def: &'a [u8],
-    call: &'a [u8],
-    args: &[usize],
-    buf: &mut [u8],
-    m: SubstMaps,
-    w: Walk,
-) -> Walk
-    ensures { progress result buf.new ≡ temporal_condition_in (tapes def.now call.now args.now m) (progress w buf.old) }
+#[tactic(auto, using(crate::proofs::Measured::hands_on), unfolding(crate::specs::Front::temporal_condition_in))]
+fn substitute_temporal_condition(s: &Substitution, c: &mut Cursor) -> Result<(), Refused>
+    ensures { Walks c.old c.new result (temporal_condition_in (tapes_of s.now) (going_at c.old)) }
 {
-    let r = subst_temporal_condition(64, def, call, args, buf, m, w);
-    refuse_too_large(m.call_span, CONDITION, buf, r)
+    subst_temporal_condition(64, s, c)?;
+    refuse_too_large(s.call_span, CONDITION, c)
 }
 
 // A value body's terms outside aggregates have the call's span.
-#[tactic(auto, unfolding(crate::specs::Front::temporal_value_in))]
-fn substitute_temporal_value<'a>(
-    def: &'a [u8],
-    call: &'a [u8],
-    args: &[usize],
-    buf: &mut [u8],
-    m: SubstMaps,
-    w: Walk,
-) -> Walk
-    ensures { progress result buf.new ≡ temporal_value_in (tapes def.now call.now args.now m) (progress w buf.old) }
+#[tactic(auto, using(crate::proofs::Measured::hands_on), unfolding(crate::specs::Front::temporal_value_in))]
+fn substitute_temporal_value(s: &Substitution, c: &mut Cursor) -> Result<(), Refused>
+    ensures { Walks c.old c.new result (temporal_value_in (tapes_of s.now) (going_at c.old)) }
 {
-    let r = subst_temporal_term(64, def, call, args, buf, m, m.call_span, w);
-    refuse_too_large(m.call_span, TERM, buf, r)
+    subst_temporal_term(64, s, c, s.call_span)?;
+    refuse_too_large(s.call_span, TERM, c)
 }
 
-#[tactic(auto, unfolding(crate::specs::Front::substitute_body_in))]
-fn substitute_body<'a>(
-    def: &'a [u8],
-    call: &'a [u8],
-    args: &[usize],
-    buf: &mut [u8],
-    m: SubstMaps,
+#[tactic(auto, using(crate::proofs::Measured::condition_hands_on, crate::proofs::Measured::value_hands_on), unfolding(crate::specs::Front::substitute_body_in))]
+fn substitute_body(
+    s: &Substitution,
+    c: &mut Cursor,
     kind: BodyNode,
     end: usize,
-    st: State,
-) -> Walk
-    ensures { progress result buf.new ≡ substitute_body_in (tapes def.now call.now args.now m) kind end st buf.old }
+) -> Result<(), Refused>
+    ensures { Walks c.old c.new result (substitute_body_in (tapes_of s.now) kind end (state_at c.old) c.old.bytes.now) }
 {
     match kind {
         // no call gets here with a Cedar macro
-        BodyNode::Cedar => without_message(2, 0, st.charged),
+        BodyNode::Cedar => Err(refuse(0, Reason::WithoutMessage(numbers::MALFORMED))),
         BodyNode::Condition => {
-            let w = charge_body(def, m, end, st);
-            substitute_temporal_condition(def, call, args, buf, m, w)
+            charge_body(s, c, end)?;
+            substitute_temporal_condition(s, c)
         }
         BodyNode::Value => {
-            let w = charge_body(def, m, end, st);
-            substitute_temporal_value(def, call, args, buf, m, w)
+            charge_body(s, c, end)?;
+            substitute_temporal_value(s, c)
         }
     }
 }
 
-// What one call of a macro becomes, appended to an area of a buffer: the body's charge, the walk, and 3. `head` is the call's head, and
+// What one call of a macro becomes, appended to the cursor's area: the body's charge, the walk, and 3. `head` is the call's head, and
 // its arguments stand from `first` on; there are as many as the macro has parameters, sixteen at the most.
 #[tactic(auto, unfolding(crate::specs::Front::call_in))]
 pub fn substitute_call<'a>(
-    def: &'a [u8],
-    d: Layout,
-    call: &'a [u8],
-    c: Layout,
+    definition: &Tape<'a>,
+    call: &Tape<'a>,
     limit: u32,
     file: u16,
     called: Macro,
     head: Heading,
     first: Place,
-    charged: u32,
-    buf: &mut [u8],
-    out: Writer,
-) -> Walk
-    ensures { progress result buf.new ≡ call_in def.now d call.now c limit file called head first charged out buf.old }
+    c: &mut Cursor,
+) -> Result<(), Refused>
+    ensures { Walks c.old c.new result (call_in definition.now.bytes.now definition.now.layout call.now.bytes.now call.now.layout limit file called head first c.old.charged c.old.out c.old.bytes.now) }
 {
-    let mut args = [0usize; 96];
-    find_arguments(call, c, first, head.count, &mut args);
-    let m = SubstMaps {
-        definition: d,
-        call: c,
+    let mut args = [Argument::NONE; 16];
+    find_arguments(call, first, head.count, &mut args);
+    let s = Substitution {
+        definition: *definition,
+        call: *call,
+        args: &args,
         params: called.params,
         count: called.head.count,
         macro_name: called.head.name,
@@ -178,79 +152,34 @@ pub fn substitute_call<'a>(
         limit,
         file,
     };
-    let st = State {
-        place: called.body,
-        out,
-        charged,
-    };
-    substitute_body(def, call, &args, buf, m, called.kind, called.end, st)
+    c.place = called.body;
+    substitute_body(&s, c, called.kind, called.end)
 }
 
-// Cedar is 31, another number of arguments 34; then the call, whose outcome is written to the area at the start of the buffer.
-#[tactic(auto, unfolding(crate::specs::Front::tapes_in))]
+// Cedar is 31, another number of arguments 34; then the call, whose outcome is written to the area at the start of the slice.
+#[tactic(auto, unfolding(crate::specs::Front::tapes_in, crate::specs::Front::counted_in))]
 pub fn substitute_tapes<'a>(
-    def: &'a [u8],
-    d: Layout,
-    call: &'a [u8],
-    c: Layout,
+    definition: &Tape<'a>,
+    call: &Tape<'a>,
     limit: u32,
     file: u16,
-    buf: &mut [u8],
-) -> Walk
-    ensures { progress result buf.new ≡ tapes_in def.now d call.now c limit file buf.old }
+    c: &mut Cursor,
+) -> Result<(), Refused>
+    ensures { Walks c.old c.new result (tapes_in definition.now.bytes.now definition.now.layout call.now.bytes.now call.now.layout limit file c.old.bytes.now) }
 {
+    c.restart();
     let origin = Place { at: 0, text: 0 };
-    let Some(called) = read_macro(def, d, origin) else {
-        return without_message(2, 0, 0);
+    let Some(called) = read_macro(definition, origin) else {
+        return Err(refuse(0, Reason::WithoutMessage(numbers::MALFORMED)));
     };
-    let Ok((head, first)) = read_heading(call, c, origin, code::CALLED) else {
-        return without_message(2, 0, 0);
+    let Ok((head, first)) = read_heading(call, origin, code::CALLED) else {
+        return Err(refuse(0, Reason::WithoutMessage(numbers::MALFORMED)));
     };
-    match called.kind {
-        BodyNode::Cedar => cedar(head),
-        BodyNode::Condition | BodyNode::Value => {
-            counted(def, d, call, c, limit, file, called, head, first, buf)
-        }
+    if matches!(called.kind, BodyNode::Cedar) {
+        return Err(refuse(head.span, Reason::CedarInCondition(head.name)));
     }
-}
-
-fn cedar(head: Heading) -> Walk
-    ensures { result ≡ cedar_at head }
-{
-    Walk::Refused(refuse(head.span, Reason::CedarInCondition(head.name)), 0)
-}
-
-// A call of a macro that is no Cedar macro.
-#[tactic(auto, unfolding(crate::specs::Front::counted_in))]
-fn counted<'a>(
-    def: &'a [u8],
-    d: Layout,
-    call: &'a [u8],
-    c: Layout,
-    limit: u32,
-    file: u16,
-    called: Macro,
-    head: Heading,
-    first: Place,
-    buf: &mut [u8],
-) -> Walk
-    ensures { progress result buf.new ≡ counted_in def.now d call.now c limit file called head first buf.old }
-{
     if called.head.count != head.count {
-        return Walk::Refused(wrong_count(called.head, head), 0);
+        return Err(wrong_count(called.head, head));
     }
-    substitute_call(
-        def,
-        d,
-        call,
-        c,
-        limit,
-        file,
-        called,
-        head,
-        first,
-        0,
-        buf,
-        empty(0),
-    )
+    substitute_call(definition, call, limit, file, called, head, first, c)
 }

@@ -6,3 +6,4 @@ pub mod TreesWalk
 pub mod TreesPlaces
 pub mod TreesShape
 pub mod TreesTable
+pub mod Unread

@@ -79,8 +79,8 @@ use Rattle.subst_places.specs.Parameters.{
   binders_in,
 }
 use Rattle.subst_state.specs.declared.maps.Argument.{Argument}
-use Rattle.walk_state.specs.declared.writing.State.{State}
-use Rattle.walk_state.specs.declared.writing.Walk.TheVariants as walk
+use Rattle.walk_state.specs.Walk.{State}
+use Rattle.walk_state.specs.Walk as walk
 use Rattle.subst_places.specs.declared.places.Interval.{Interval}
 use Rattle.subst_places.specs.declared.places.Interval.TheVariants as interval
 use Rattle.subst_places.proofs.TreesWalk.{

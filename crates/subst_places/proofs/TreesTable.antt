@@ -2,25 +2,23 @@
 -- parameter that has it.
 -- Assumes nothing.
 use Rattle.std.proofs.Common.{Some, None, Ok, Option}
-use Prim.Native.Nat.{ℕ, zero, suc, ◌+◌, ◌*◌, ◌%◌, ◌≤◌, ◌<◌}
+use Prim.Native.Nat.{ℕ, zero, suc, ◌+◌, ◌≤◌, ◌<◌}
 use native.Mathlib.Omega.{arith}
-use mathlib.Core.Path.{◌≡◌, refl, sym, ap, ◌∙◌, subst}
+use mathlib.Core.Path.{◌≡◌, refl, sym, ◌∙◌, subst}
 use mathlib.Core.List.{List, [], ◌∷◌}
 use mathlib.Core.Bool.{Bool, true, false}
 use mathlib.Core.Option.{Option as Maybe, none, some}
 use lib.Dec.{leb}
-use lib.ListN.{length, get_or, set, length-set}
-use lib.Seq.{sets, length-sets, get_or-set_same, get_or-set_other}
+use lib.ListN.{length, length-set}
+use Rattle.std.specs.Prelude.{slice_set}
 use borrow.Author.Tests.{le-leb}
 use Rattle.format.specs.Entry.{Text, Entry, entry, text_entry}
-use Rattle.format.specs.Ast.{TimeUnit, Condition, Term, Call, CallArg, CallArgs, MacroParam, MacroDef}
-use Rattle.format.specs.Flat.{flat_unit, flat_interval, flat_within, flat_params, length_args, flat_condition, flat_term, flat_call, flat_arg, flat_args, flat_def}
+use Rattle.format.specs.Ast.{Condition, Term, Call, CallArg, CallArgs, MacroParam, MacroDef}
+use Rattle.format.specs.Flat.{flat_interval, flat_within, flat_params, length_args, flat_condition, flat_term, flat_call, flat_arg, flat_args, flat_def}
 use Rattle.definition.specs.Size.{size, call_arg_size}
 use Rattle.definition.proofs.Size.{size_interval}
 use Rattle.definition.specs.Substitute.{SubstMaps, maps_of, lookup, only_if, ◌or_else◌}
 use Rattle.definition.specs.Text.{eq_text}
-use Rattle.buffer.specs.Buffer.{Decides}
-use Rattle.buffer.proofs.Decides.{decides_le, decides_and}
 use Rattle.tape.specs.Pick.{pick}
 use Rattle.nodes.specs.Node.{name_at, entry_at, argument_at}
 use Rattle.tape.specs.declared.layout.Layout.{Layout}
@@ -35,10 +33,10 @@ use Rattle.tape.specs.Scan.{skip_at}
 use Rattle.nodes.specs.declared.ArgNode.{ArgNode}
 use Rattle.nodes.specs.declared.ArgNode.TheVariants as kind
 use Rattle.nodes.specs.Node.{param_at}
-use Rattle.subst_state.specs.Arguments.{on_found, sort_of, measure_at, row_of, table_from, argument_in, search_from, arg_for}
+use Rattle.subst_state.specs.Arguments.{on_found, sort_of, measure_at, table_from, argument_in, search_from, arg_for}
 use Rattle.subst_places.specs.Parameters.{Tapes, tapes}
 use Rattle.subst_state.specs.declared.maps.Argument.{Argument}
-use Rattle.subst_places.proofs.TreesBound.{root_condition, root_term, root_of, between, ranges_condition, ranges_term, entries_of, ArgumentIs, FoundIs, nothing, argument, Bound}
+use Rattle.subst_places.proofs.TreesBound.{root_condition, root_term, root_of, entries_of, ArgumentIs, FoundIs, nothing, argument, Bound}
 
 -- ------------------------------------------------------------------ an argument, measured
 
@@ -125,111 +123,71 @@ module _ {s : List ℕ} {l : Layout} {p : Place} where
       measured_as (CallArg.WithinArg v) kind.Within i.read b (rooted (flat_interval v) b)
       (inside_skip b (passes_interval v) (omega arith)) (size_interval v) i.runs.ends
 
--- ------------------------------------------------------------------ rows
-
--- what stands before a write, and what was written
-sets_before : (vs l : List ℕ) (i j : ℕ) → j < i → get_or (sets l i vs) j 0 ≡ get_or l j 0
-sets_before [] l i j h = refl
-sets_before (a ∷ vs) l i j h = sets_before vs (set l i a) (suc i) j (omega arith) ∙ get_or-set_other l i j a 0 (λ e. omega arith)
-
-sets_at : (vs l : List ℕ) (i j : ℕ) → j < length vs → i + length vs ≤ length l → get_or (sets l i vs) (i + j) 0 ≡ get_or vs j 0
-sets_at [] l i j h b = absurd (omega arith)
-sets_at (a ∷ vs) l i zero h b =
-    let e : i + 0 ≡ i = omega arith in
-    rw e (sets_before vs (set l i a) (suc i) i (omega arith) ∙ get_or-set_same l i a 0 (omega arith))
-sets_at (a ∷ vs) l i (suc j) h b =
-    let e : i + suc j ≡ suc i + j = omega arith in
-    rw e (sets_at vs (set l i a) (suc i) j (omega arith) (omega (arith, length-set l i a)))
+-- ------------------------------------------------------------------ the table
 
 -- the table t' is t up to index k, and as long
-record Keeps (k : ℕ) (t t' : List ℕ) : Type 0 where
+record Keeps (k : ℕ) (t t' : List Argument) : Type 0 where
   size : length t' ≡ length t
-  before : (j : ℕ) → j < k → get_or t' j 0 ≡ get_or t j 0
+  before : (j : ℕ) → j < k → argument_in t' j ≡ argument_in t j
 
--- one row more, and those behind it
-keeps_more : (k : ℕ) (t u : List ℕ) (a : Argument) → Keeps (k + 6) (sets t k (row_of a)) u → Keeps k t u
+set_before : (t : List Argument) (k j : ℕ) (a : Argument) → j < k → argument_in (slice_set t k a) j ≡ argument_in t j
+unfolding argument_in
+set_before [] k j a h = refl
+set_before (b ∷ t) zero j a h = absurd (omega arith)
+set_before (b ∷ t) (suc k) zero a h = refl
+set_before (b ∷ t) (suc k) (suc j) a h = set_before t k j a (omega arith)
+
+set_at : (t : List Argument) (k : ℕ) (a : Argument) → k < length t → argument_in (slice_set t k a) k ≡ Some a
+unfolding argument_in
+set_at [] k a h = absurd (omega arith)
+set_at (b ∷ t) zero a h = refl
+set_at (b ∷ t) (suc k) a h = set_at t k a (omega arith)
+
+-- one argument more, and those behind it
+keeps_more : (k : ℕ) (t u : List Argument) (a : Argument) → Keeps (k + 1) (slice_set t k a) u → Keeps k t u
 keeps_more k t u a h =
     record {
-      size = h.size ∙ length-sets t k (row_of a);
-      before = λ j b. h.before j (omega arith) ∙ sets_before (row_of a) t k j b;
+      size = h.size ∙ length-set t k a;
+      before = λ j b. h.before j (omega arith) ∙ set_before t k j a b;
     }
 
-keeps_step : (k : ℕ) (t : List ℕ) (f : Argument → List ℕ) (b : Bool) (x : Option Argument) → ((a : Argument) → Keeps k t (f a))
+keeps_step : (k : ℕ) (t : List Argument) (f : Argument → List Argument) (b : Bool) (x : Option Argument) → ((a : Argument) → Keeps k t (f a))
     → Keeps k t (pick b (on_found t f x) t)
 keeps_step k t f true (Some a) h = h a
 keeps_step k t f true None h = record { size = refl; before = λ j b. refl }
 keeps_step k t f false x h = record { size = refl; before = λ j b. refl }
 
 module _ (s : List ℕ) (l : Layout) where
-  table_keeps : (n : ℕ) (p : Place) (k : ℕ) (t : List ℕ) → Keeps k t (table_from s l n p k t)
+  table_keeps : (n : ℕ) (p : Place) (k : ℕ) (t : List Argument) → Keeps k t (table_from s l n p k t)
   unfolding table_from
   table_keeps zero p k t = record { size = refl; before = λ j h. refl }
   table_keeps (suc n) p k t =
-      keeps_step k t _ (leb (k + 6) (length t)) (measure_at s l p)
-      (λ a. keeps_more k t _ a (table_keeps n a.to (k + 6) (sets t k (row_of a))))
+      keeps_step k t _ (leb (k + 1) (length t)) (measure_at s l p)
+      (λ a. keeps_more k t _ a (table_keeps n a.to (k + 1) (slice_set t k a)))
 
--- a row that was written is read back
-module _ (t t' : List ℕ) (k i : ℕ) (a : Argument) (e : k ≡ 6 * i) (b : k + 6 ≤ length t) (small : a.root < 256)
-    (h : Keeps (k + 6) (sets t k (row_of a)) t') where
-  cell : (j x : ℕ) → x ≡ k + j → j < 6 → get_or t' x 0 ≡ get_or (row_of a) j 0
-  cell j x q m = rw q (h.before (k + j) (omega arith) ∙ sets_at (row_of a) t k j m b)
-
-  row_read : argument_in t' i ≡ Some a
-  unfolding argument_in
-  row_read =
-      let r : a.root % 256 ≡ a.root = omega arith in
-      rw (
-        le-leb (6 * i + 6) (length t') (omega (arith, h.size, length-sets t k (row_of a))),
-        cell 0 (6 * i) (omega arith) (omega arith),
-        cell 1 (6 * i + 1) (omega arith) (omega arith),
-        cell 2 (6 * i + 2) (omega arith) (omega arith),
-        cell 3 (6 * i + 3) (omega arith) (omega arith),
-        cell 4 (6 * i + 4) (omega arith) (omega arith),
-        cell 5 (6 * i + 5) (omega arith) (omega arith),
-      )
-      (ap (λ (root : ℕ). Some (record { from = a.from; to = a.to; root = root; size = a.size })) r)
-
-range : (low high root : ℕ) → Decides ((low ≤ root) × (root ≤ high)) (between low high root)
-range low high root = decides_and (decides_le low root) (decides_le root high)
-
-unit_small : (u : TimeUnit) → flat_unit u < 256
-unfolding flat_unit
-unit_small TimeUnit.Seconds = omega arith
-unit_small TimeUnit.Minutes = omega arith
-unit_small TimeUnit.Hours = omega arith
-unit_small TimeUnit.Days = omega arith
-unit_small TimeUnit.Weeks = omega arith
-
-root_small : (a : CallArg) → root_of a < 256
-unfolding root_of
-root_small (CallArg.ConditionArg c) = omega (arith, ((range 1 13 (root_condition c)).holds (ranges_condition c).0).1)
-root_small (CallArg.TermArg t) = omega (arith, ((range 20 33 (root_term t)).holds (ranges_term t).1).1)
-root_small (CallArg.WithinArg i) = unit_small i.unit
-
--- the rows from row i on are those of the arguments
+-- the arguments from index i on are those of the call
 module _ (s : List ℕ) (l : Layout) where
-  unfoldable Rows : List ℕ → ℕ → CallArgs → Type 0
+  unfoldable Rows : List Argument → ℕ → CallArgs → Type 0
   Rows t i CallArgs.no_args = Unit {0}
   Rows t i (CallArgs.cons_arg a rest) = FoundIs s l (some a) (argument_in t i) × Rows t (i + 1) rest
 
-  table_rows : (args : CallArgs) {p : Place} (k i : ℕ) (t : List ℕ) → k ≡ 6 * i → Inside s l p (flat_args args)
-      → k + 6 * length_args args ≤ length t
-      → Rows (table_from s l (length_args args) p k t) i args
+  table_rows : (args : CallArgs) {p : Place} (k : ℕ) (t : List Argument) → Inside s l p (flat_args args)
+      → k + length_args args ≤ length t
+      → Rows (table_from s l (length_args args) p k t) k args
   unfolding Rows table_from length_args
-  table_rows CallArgs.no_args k i t e h b = tt
-  table_rows (CallArgs.cons_arg a rest) {p = p} k i t e h b =
+  table_rows CallArgs.no_args k t h b = tt
+  table_rows (CallArgs.cons_arg a rest) {p = p} k t h b =
       let runs = parts_args (CallArgs.cons_arg a rest) h in
       let m = measured a runs.first in
-      let u = sets t k (row_of m.arg) in
+      let u = slice_set t k m.arg in
       let behind : Inside s l m.arg.to (flat_args rest) = rw m.ends runs.second in
-      let small : m.arg.root < 256 = omega (arith, m.is.its_root, root_small a) in
-      let filled : table_from s l (suc (length_args rest)) p k t ≡ table_from s l (length_args rest) m.arg.to (k + 6) u =
-      rw (le-leb (k + 6) (length t) (omega arith), m.measures) refl in (
-        subst (λ (w : List ℕ). FoundIs s l (some a) (argument_in w i)) (sym filled)
-            (argument a m.arg refl (row_read t _ k i m.arg e (omega arith) small
-            (table_keeps s l (length_args rest) m.arg.to (k + 6) u)) m.is),
-        subst (λ (w : List ℕ). Rows w (i + 1) rest) (sym filled)
-            (table_rows rest (k + 6) (i + 1) u (omega arith) behind (omega (arith, length-sets t k (row_of m.arg)))),
+      let filled : table_from s l (suc (length_args rest)) p k t ≡ table_from s l (length_args rest) m.arg.to (k + 1) u =
+      rw (le-leb (k + 1) (length t) (omega arith), m.measures) refl in (
+        subst (λ (w : List Argument). FoundIs s l (some a) (argument_in w k)) (sym filled)
+            (argument a m.arg refl
+            ((table_keeps s l (length_args rest) m.arg.to (k + 1) u).before k (omega arith) ∙ set_at t k m.arg (omega arith)) m.is),
+        subst (λ (w : List Argument). Rows w (k + 1) rest) (sym filled)
+            (table_rows rest (k + 1) u behind (omega (arith, length-set t k m.arg))),
       )
 
 -- ------------------------------------------------------------------ a search
@@ -252,7 +210,7 @@ unfolding only_if ◌or_else◌
 one_of true h k = h
 one_of false h k = k
 
-module _ {def call : List ℕ} {d c : Layout} (table : List ℕ) (name : Name) {n : Text} (spelled : name_at def d name ≡ n) where
+module _ {def call : List ℕ} {d c : Layout} (table : List Argument) (name : Name) {n : Text} (spelled : name_at def d name ≡ n) where
   search_right : (qs : List MacroParam) (args : CallArgs) {p : Place} (i : ℕ) {o : Maybe CallArg} {other : Option Argument}
       → Inside def d p (flat_params qs)
       → length_args args ≡ length qs → Rows call c table i args → FoundIs call c o other
@@ -268,16 +226,16 @@ module _ {def call : List ℕ} {d c : Layout} (table : List ℕ) (name : Name) {
 -- ------------------------------------------------------------------ the whole
 
 -- The parameters stand in the definition and the arguments in the call, and the table was filled from there.
-pub bound : {T : Tapes} {maps : SubstMaps} {first : Place} (t : List ℕ)
+pub bound : {T : Tapes} {maps : SubstMaps} {first : Place} (t : List Argument)
     → Inside T.definition T.maps.definition T.maps.params (flat_params maps.params) → T.maps.count ≡ length maps.params
     → Inside T.call T.maps.call first (flat_args maps.args) → length_args maps.args ≡ length maps.params
-    → 6 * length_args maps.args ≤ length t → T.table ≡ table_from T.call T.maps.call (length_args maps.args) first 0 t
+    → length_args maps.args ≤ length t → T.table ≡ table_from T.call T.maps.call (length_args maps.args) first 0 t
     → name_at T.definition T.maps.definition T.maps.macro_name ≡ maps.macro_name → T.maps.call_span ≡ maps.call_span
     → T.maps.limit ≡ maps.limit → T.maps.file ≡ maps.file → Bound T maps
 unfolding arg_for
 bound {T} {maps} {first} t params count args same room filled its_name its_span its_limit its_file =
     let rows : Rows T.call T.maps.call T.table 0 maps.args =
-    rw filled (table_rows T.call T.maps.call maps.args 0 0 t refl args (omega arith)) in
+    rw filled (table_rows T.call T.maps.call maps.args 0 t args (omega arith)) in
     record {
       its_name = its_name;
       its_span = its_span;
@@ -290,9 +248,9 @@ bound {T} {maps} {first} t params count args same room filled its_name its_span 
 
 -- A definition and a call of it, each where it stands.
 pub bound_of : (d : MacroDef) (span : ℕ) (name : Text) (args : CallArgs) (limit file : ℕ) {def call : List ℕ} {l c : Layout} {p q : Place}
-    (t : List ℕ)
+    (t : List Argument)
     (h : Inside def l p (flat_def d)) → Inside call c q (flat_call (Call.MacroCall span name args)) → length_args args ≡ length d.params
-    → 6 * length_args args ≤ length t
+    → length_args args ≤ length t
     → Bound
     (tapes def call (table_from call c (length_args args) (past (heading_entries 54 span name (length_args args)) q) 0 t)
     (record {

@@ -32,7 +32,7 @@ use Rattle.answer.specs.Matches.{RefusalMatches}
 use Rattle.walk_state.specs.Writing.{Progress, progress, state, going}
 use Rattle.subst_state.specs.Output.{copy_in, copy_own_in}
 use Rattle.subst_places.specs.Parameters.{Tapes, items_in, behind_in}
-use Rattle.walk_state.specs.declared.writing.Walk.TheVariants as walk
+use Rattle.walk_state.specs.Walk as walk
 
 -- ------------------------------------------------------------------ refusals are handed on
 

@@ -33,10 +33,11 @@ use Rattle.subst_state.specs.Arguments.{on_found, arg_for}
 use Rattle.walk_state.specs.Writing.{Progress, progress, going, after, stop, unread}
 use Rattle.subst_state.specs.Output.{copy_own_in, paste_in, charge_paste_in, gensym_in}
 use Rattle.subst_state.specs.declared.maps.Argument.{Argument}
-use Rattle.subst_state.specs.declared.maps.SubstMaps.{SubstMaps}
-use Rattle.walk_state.specs.declared.writing.State.{State}
-use Rattle.walk_state.specs.declared.writing.Walk.{Walk}
-use Rattle.walk_state.specs.declared.writing.Walk.TheVariants as walk
+use Rattle.subst_state.specs.Maps.{SubstMaps, maps_at}
+use Rattle.subst_state.specs.declared.maps.Substitution.{Substitution}
+use Rattle.walk_state.specs.Walk.{State}
+use Rattle.walk_state.specs.Walk.{Walk}
+use Rattle.walk_state.specs.Walk as walk
 use Rattle.subst_places.specs.declared.places.Interval.{Interval}
 use Rattle.subst_places.specs.declared.places.Interval.TheVariants as interval
 
@@ -44,11 +45,15 @@ use Rattle.subst_places.specs.declared.places.Interval.TheVariants as interval
 pub record Tapes : Type 0 where
   pub definition : List ℕ
   pub call : List ℕ
-  pub table : List ℕ
+  pub table : List Argument
   pub maps : SubstMaps
 
-abbrev pub tapes : List ℕ → List ℕ → List ℕ → SubstMaps → Tapes
+abbrev pub tapes : List ℕ → List ℕ → List Argument → SubstMaps → Tapes
 tapes definition call table maps = record { definition = definition; call = call; table = table; maps = maps }
+
+-- those of a substitution
+abbrev pub tapes_of : Substitution → Tapes
+tapes_of s = tapes s.definition.bytes.now s.call.bytes.now s.args.now (maps_at s)
 
 -- f along n items, up to the first refusal
 unfoldable pub items_in : (Progress → Progress) → ℕ → Progress → Progress
@@ -73,7 +78,7 @@ unfoldable pub behind_in : List ℕ → Layout → Place → Walk → Option Pla
 behind_in s l left (walk.Going st) = Some st.place
 behind_in s l left (walk.Refused r charged) = skip_at s l left grammar.condition
 
-module _ (def table : List ℕ) (m : SubstMaps) where
+module _ (def : List ℕ) (table : List Argument) (m : SubstMaps) where
   unfoldable pub param_within_in : ℕ → Name → Place → Result Interval Refused
   param_within_in span name next =
       on_found (Err (unbound_at m span name))

@@ -10,9 +10,10 @@ use Rattle.messages.specs.Reason.{refused_at}
 use Rattle.messages.specs.declared.Reason.TheVariants.{NotAPredicate}
 use Rattle.subst_state.specs.Arguments.{on_found, arg_for}
 use Rattle.walk_state.specs.Writing.{Progress, going, after, stop}
-use Rattle.subst_state.specs.declared.maps.SubstMaps.{SubstMaps}
+use Rattle.subst_state.specs.Maps.{SubstMaps}
+use Rattle.subst_state.specs.declared.maps.Argument.{Argument}
 
-module _ (def table : List ℕ) (m : SubstMaps) where
+module _ (def : List ℕ) (table : List Argument) (m : SubstMaps) where
   -- a `?` comes out as its argument
   unfoldable pub sigil_shape_in : Place → ℕ
   sigil_shape_in p =

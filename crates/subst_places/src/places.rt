@@ -1,21 +1,20 @@
 // The four places of a parameter, and of a binder's name: what a `?` or a `$` becomes there.
 ghost use Rattle.std.specs.Prelude.{◌≡◌};
-ghost use Rattle.walk_state.specs.Writing.{progress};
-ghost use Rattle.subst_places.specs.Parameters.{tapes, has_root, is_interval, unbound_at, param_in, sigil_ref_in, param_term_in, param_within_in, within_in, behind_in, since_within_in, put_within_in, param_slot_in, binder_slot_in, binder_in, binders_in};
+ghost use Rattle.walk_state.specs.Writing.{Walks, state_at, going_at, came_to};
+ghost use Rattle.subst_state.specs.Maps.{maps_at};
+ghost use Rattle.subst_places.specs.Parameters.{tapes_of, items_in, has_root, is_interval, unbound_at, param_in, sigil_ref_in, param_term_in, param_within_in, within_in, behind_in, since_within_in, put_within_in, param_slot_in, binder_slot_in, binder_in, binders_in};
 
-use area::put_text;
 use grammar::code;
 use grammar::codes::CONDITION;
 use messages::{Reason, Refused, refuse};
 use nodes::{
     Name, Refusal, Sigil, SlotNode, WithinNode, expect, past_type, read_slot, read_within,
 };
-use subst_state::maps::{Argument, SubstMaps, arg_for};
-use subst_state::paste::{charge_paste, copy_own, gensym_for, paste};
+use subst_state::maps::{Argument, Substitution};
 use subst_state::run::text_between;
-use tape::layout::{Layout, Place};
+use tape::layout::{Place, Tape};
 use tape::scan::skip;
-use walk_state::writing::{State, Walk, without_message};
+use walk_state::writing::Cursor;
 
 // Whether the root of an argument is of a code from `low` to `high`.
 fn has_root(arg: Argument, low: u8, high: u8) -> bool
@@ -31,79 +30,61 @@ fn is_interval(arg: Argument) -> bool
     has_root(arg, code::SECONDS, code::DAYS) | has_root(arg, code::WEEKS, code::WEEKS)
 }
 
-fn unbound(m: SubstMaps, span: u64, name: Name) -> Refused
-    ensures { result ≡ unbound_at m span name }
+fn unbound(s: &Substitution, span: u64, name: Name) -> Refused
+    ensures { result ≡ unbound_at (maps_at s.now) span name }
 {
-    refuse(span, Reason::Unbound(m.macro_name, name))
+    refuse(span, Reason::Unbound(s.macro_name, name))
 }
 
 // ---- a condition place
 
 // A `?` where the root of an argument is of a code from `low` to `high`; of any other argument, `other` is said.
 #[tactic(auto, unfolding(crate::specs::Parameters::param_in))]
-fn param<'a>(
-    def: &'a [u8],
-    call: &'a [u8],
-    args: &[usize],
-    buf: &mut [u8],
-    m: SubstMaps,
+fn param(
+    s: &Substitution,
+    c: &mut Cursor,
     low: u8,
     high: u8,
     other: Reason,
     span: u64,
     name: Name,
-    st: State,
     next: Place,
-) -> Walk
-    ensures { progress result buf.new ≡ param_in (tapes def.now call.now args.now m) low high other span name st next buf.old }
+) -> Result<(), Refused>
+    ensures { Walks c.old c.new result (param_in (tapes_of s.now) low high other span name (state_at c.old) next c.old.bytes.now) }
 {
-    let Some(arg) = arg_for(def, args, m, name) else {
-        return Walk::Refused(unbound(m, span, name), st.charged);
+    let Some(arg) = s.arg_for(name) else {
+        return Err(unbound(s, span, name));
     };
     if has_root(arg, low, high) {
-        return charge_paste(def, call, buf, m, arg, st, next);
+        return s.charge_paste(c, arg, next);
     }
-    Walk::Refused(refuse(span, other), st.charged)
+    Err(refuse(span, other))
 }
 
 #[tactic(auto, unfolding(crate::specs::Parameters::sigil_ref_in, crate::specs::Parameters::param_condition_in, crate::specs::Parameters::param_in))]
-pub fn subst_sigil_ref<'a>(
-    def: &'a [u8],
-    call: &'a [u8],
-    args: &[usize],
-    buf: &mut [u8],
-    m: SubstMaps,
+pub fn subst_sigil_ref(
+    s: &Substitution,
+    c: &mut Cursor,
     span: u64,
     sigil: Sigil,
     name: Name,
-    st: State,
     next: Place,
-) -> Walk
-    ensures { progress result buf.new ≡ sigil_ref_in (tapes def.now call.now args.now m) span sigil name st next buf.old }
+) -> Result<(), Refused>
+    ensures { Walks c.old c.new result (sigil_ref_in (tapes_of s.now) span sigil name (state_at c.old) next c.old.bytes.now) }
 {
     match sigil {
         Sigil::Param => {
-            let other = Reason::NotACondition(m.macro_name, name);
-            param(
-                def,
-                call,
-                args,
-                buf,
-                m,
-                code::AND,
-                code::REFINE,
-                other,
-                span,
-                name,
-                st,
-                next,
-            )
+            let other = Reason::NotACondition(s.macro_name, name);
+            param(s, c, code::AND, code::REFINE, other, span, name, next)
         }
-        Sigil::Binder => Walk::Refused(refuse(span, Reason::BinderAsCondition(name)), st.charged),
+        Sigil::Binder => Err(refuse(span, Reason::BinderAsCondition(name))),
     }
 }
 
 // ---- a within place
+
+// Withins, slots and binders are read here as the body check reads them (`check_parts`), and what each becomes is written: of a check
+// only the place behind is left, so that the reads are all that the two have in common, and those are functions of `nodes`.
 
 // What a within becomes: its own entry, or the interval that the call gives, with the place behind it.
 #[derive(Clone, Copy, Debug, PartialEq, Eq)]
@@ -114,123 +95,105 @@ pub enum Interval {
 
 // Nothing is charged or written here, so that a Since can ask for its within where its left side was refused.
 #[tactic(auto, unfolding(crate::specs::Parameters::within_in, nodes::specs::Node::within_at, nodes::specs::Node::span_of, nodes::specs::Node::refusal_of))]
-pub fn subst_within(
-    def: &[u8],
-    args: &[usize],
-    m: SubstMaps,
-    span: u64,
-    p: Place,
-) -> Result<Interval, Refused>
-    ensures { result ≡ within_in def.now args.now m span p }
+pub fn subst_within(s: &Substitution, span: u64, p: Place) -> Result<Interval, Refused>
+    ensures { result ≡ within_in s.now.definition.bytes.now s.now.args.now (maps_at s.now) span p }
 {
-    let (node, next) = read_within(def, m.definition, p)?;
+    let (node, next) = read_within(&s.definition, p)?;
     match node {
         WithinNode::Concrete => Ok(Interval::Own(next)),
-        WithinNode::ParamRef(name) => param_within(def, args, m, span, name, next),
+        WithinNode::ParamRef(name) => param_within(s, span, name, next),
     }
 }
 
 #[tactic(auto, unfolding(crate::specs::Parameters::param_within_in))]
-fn param_within(
-    def: &[u8],
-    args: &[usize],
-    m: SubstMaps,
-    span: u64,
-    name: Name,
-    next: Place,
-) -> Result<Interval, Refused>
-    ensures { result ≡ param_within_in def.now args.now m span name next }
+fn param_within(s: &Substitution, span: u64, name: Name, next: Place) -> Result<Interval, Refused>
+    ensures { result ≡ param_within_in s.now.definition.bytes.now s.now.args.now (maps_at s.now) span name next }
 {
-    let Some(arg) = arg_for(def, args, m, name) else {
-        return Err(unbound(m, span, name));
+    let Some(arg) = s.arg_for(name) else {
+        return Err(unbound(s, span, name));
     };
     if is_interval(arg) {
         return Ok(Interval::Given(arg, next));
     }
-    Err(refuse(span, Reason::NotAnInterval(m.macro_name, name)))
+    Err(refuse(span, Reason::NotAnInterval(s.macro_name, name)))
 }
 
 // Where the left side of a Since ends: where its walk came, or, if that was refused, where a skip comes.
 #[tactic(auto, unfolding(crate::specs::Parameters::behind_in))]
-pub fn behind(s: &[u8], l: Layout, left: Place, w: Walk) -> Option<Place>
-    ensures { result ≡ behind_in s.now l left w }
+pub fn behind(tape: &Tape, left: Place, walked: &Result<(), Refused>, c: &Cursor) -> Option<Place>
+    ensures { result ≡ behind_in tape.now.bytes.now tape.now.layout left (came_to walked.now c.now).walk }
 {
-    match w {
-        Walk::Going(st) => Some(st.place),
-        Walk::Refused(_, _) => skip(s, l, left, CONDITION),
+    match walked {
+        Ok(()) => Some(c.place),
+        Err(_) => skip(tape, left, CONDITION),
     }
 }
 
 // What the within of a Since becomes. It stands behind the left side, which was walked.
 #[tactic(auto, unfolding(crate::specs::Parameters::since_within_in, nodes::specs::Node::span_of, nodes::specs::Node::refusal_of))]
 pub fn since_within(
-    def: &[u8],
-    args: &[usize],
-    m: SubstMaps,
+    s: &Substitution,
     span: u64,
     left: Place,
-    w: Walk,
+    walked: &Result<(), Refused>,
+    c: &Cursor,
 ) -> Result<Interval, Refused>
-    ensures { result ≡ since_within_in def.now args.now m span left w }
+    ensures { result ≡ since_within_in s.now.definition.bytes.now s.now.args.now (maps_at s.now) span left (came_to walked.now c.now).walk }
 {
-    let p = behind(def, m.definition, left, w).ok_or(Refusal::MALFORMED)?;
-    subst_within(def, args, m, span, p)
+    let p = behind(&s.definition, left, walked, c).ok_or(Refusal::MALFORMED)?;
+    subst_within(s, span, p)
 }
 
 // Appends what a within became, behind a walk. A refusal of the within comes before one of the walk, with what was charged before it.
-#[tactic(auto, unfolding(crate::specs::Parameters::put_within_in))]
-pub fn put_within<'a>(
-    def: &'a [u8],
-    call: &'a [u8],
-    buf: &mut [u8],
-    m: SubstMaps,
+#[tactic(auto, unfolding(crate::specs::Parameters::put_within_in, subst_state::specs::Output::paste_in))]
+pub fn put_within(
+    s: &Substitution,
+    c: &mut Cursor,
     found: Result<Interval, Refused>,
     charged: u32,
-    w: Walk,
-) -> Walk
-    ensures { progress result buf.new ≡ put_within_in def.now call.now m found charged (progress w buf.old) }
+    walked: Result<(), Refused>,
+) -> Result<(), Refused>
+    ensures { Walks c.old c.new result (put_within_in s.now.definition.bytes.now s.now.call.bytes.now (maps_at s.now) found charged (came_to walked c.old)) }
 {
     match found {
         Ok(Interval::Own(next)) => {
-            let Walk::Going(st) = w else {
-                return w;
-            };
-            copy_own(def, call, buf, m, st, next)
+            walked?;
+            s.copy_own(c, next);
+            Ok(())
         }
-        Ok(Interval::Given(arg, next)) => paste(def, call, buf, m, arg, w, next),
-        Err(r) => Walk::Refused(r, charged),
+        Ok(Interval::Given(arg, next)) => {
+            walked?;
+            s.paste(c, arg, next);
+            Ok(())
+        }
+        Err(r) => {
+            c.charged = charged;
+            Err(r)
+        }
     }
 }
 
 // ---- a term place
 
 #[tactic(auto, unfolding(crate::specs::Parameters::param_term_in, crate::specs::Parameters::param_in))]
-pub fn param_term<'a>(
-    def: &'a [u8],
-    call: &'a [u8],
-    args: &[usize],
-    buf: &mut [u8],
-    m: SubstMaps,
+pub fn param_term(
+    s: &Substitution,
+    c: &mut Cursor,
     span: u64,
     name: Name,
-    st: State,
     next: Place,
-) -> Walk
-    ensures { progress result buf.new ≡ param_term_in (tapes def.now call.now args.now m) span name st next buf.old }
+) -> Result<(), Refused>
+    ensures { Walks c.old c.new result (param_term_in (tapes_of s.now) span name (state_at c.old) next c.old.bytes.now) }
 {
-    let other = Reason::NotATerm(m.macro_name, name);
+    let other = Reason::NotATerm(s.macro_name, name);
     param(
-        def,
-        call,
-        args,
-        buf,
-        m,
+        s,
+        c,
         code::ENTITY,
         code::BINDER_REF,
         other,
         span,
         name,
-        st,
         next,
     )
 }
@@ -239,110 +202,69 @@ pub fn param_term<'a>(
 
 // 41 has the span of the condition or aggregate that the slot is in, 46 the call's.
 #[tactic(auto, unfolding(crate::specs::Parameters::param_slot_in))]
-fn param_slot<'a>(
-    def: &'a [u8],
-    call: &'a [u8],
-    args: &[usize],
-    buf: &mut [u8],
-    m: SubstMaps,
+fn param_slot(
+    s: &Substitution,
+    c: &mut Cursor,
     span: u64,
     name: Name,
-    st: State,
     next: Place,
-) -> Walk
-    ensures { progress result buf.new ≡ param_slot_in (tapes def.now call.now args.now m) span name st next buf.old }
+) -> Result<(), Refused>
+    ensures { Walks c.old c.new result (param_slot_in (tapes_of s.now) span name (state_at c.old) next c.old.bytes.now) }
 {
-    let Some(arg) = arg_for(def, args, m, name) else {
-        return Walk::Refused(unbound(m, span, name), st.charged);
+    let Some(arg) = s.arg_for(name) else {
+        return Err(unbound(s, span, name));
     };
     if has_root(arg, code::VAR, code::VAR) {
-        let ident = text_between(def, call, true, m.call, arg.from, arg.to);
-        let out = put_text(buf, st.out, code::SLOT_NAME, ident);
-        return Walk::Going(State {
-            place: next,
-            out,
-            ..st
-        });
+        c.put_text(
+            code::SLOT_NAME,
+            text_between(&s.definition, &s.call, true, arg.from, arg.to),
+        );
+        c.place = next;
+        return Ok(());
     }
-    Walk::Refused(
-        refuse(m.call_span, Reason::NotAnIdentifier(m.macro_name, name)),
-        st.charged,
-    )
+    Err(refuse(s.call_span, Reason::NotAnIdentifier(s.macro_name, name)))
 }
 
-#[tactic(auto, unfolding(crate::specs::Parameters::binder_slot_in))]
-pub fn subst_binder_slot<'a>(
-    def: &'a [u8],
-    call: &'a [u8],
-    args: &[usize],
-    buf: &mut [u8],
-    m: SubstMaps,
-    span: u64,
-    w: Walk,
-) -> Walk
-    ensures { progress result buf.new ≡ binder_slot_in (tapes def.now call.now args.now m) span (progress w buf.old) }
+#[tactic(auto, unfolding(crate::specs::Parameters::binder_slot_in, nodes::specs::Node::slot_at, nodes::specs::Node::span_of, nodes::specs::Node::refusal_of))]
+pub fn subst_binder_slot(s: &Substitution, c: &mut Cursor, span: u64) -> Result<(), Refused>
+    ensures { Walks c.old c.new result (binder_slot_in (tapes_of s.now) span (going_at c.old)) }
 {
-    let Walk::Going(st) = w else {
-        return w;
-    };
-    let Ok((node, next)) = read_slot(def, m.definition, st.place) else {
-        return without_message(2, 0, st.charged);
-    };
+    let (node, next) = read_slot(&s.definition, c.place)?;
     match node {
-        SlotNode::Name(_) => copy_own(def, call, buf, m, st, next),
-        SlotNode::ParamRef(name) => param_slot(def, call, args, buf, m, span, name, st, next),
-        SlotNode::BinderRef(name) => gensym_for(def, buf, m, code::SLOT_NAME, name, st, next),
+        SlotNode::Name(_) => s.copy_own(c, next),
+        SlotNode::ParamRef(name) => return param_slot(s, c, span, name, next),
+        SlotNode::BinderRef(name) => s.gensym_for(c, code::SLOT_NAME, name, next),
     }
+    Ok(())
 }
 
 // A slot and its type.
-#[tactic(auto, unfolding(crate::specs::Parameters::binder_in))]
-pub fn subst_binder<'a>(
-    def: &'a [u8],
-    call: &'a [u8],
-    args: &[usize],
-    buf: &mut [u8],
-    m: SubstMaps,
-    span: u64,
-    w: Walk,
-) -> Walk
-    ensures { progress result buf.new ≡ binder_in (tapes def.now call.now args.now m) span (progress w buf.old) }
+#[tactic(auto, unfolding(crate::specs::Parameters::binder_in, nodes::specs::Node::span_of, nodes::specs::Node::refusal_of))]
+pub fn subst_binder(s: &Substitution, c: &mut Cursor, span: u64) -> Result<(), Refused>
+    ensures { Walks c.old c.new result (binder_in (tapes_of s.now) span (going_at c.old)) }
 {
-    let v = subst_binder_slot(def, call, args, buf, m, span, w);
-    let Walk::Going(st) = v else {
-        return v;
-    };
-    let Some(next) = past_type(def, m.definition, st.place) else {
-        return without_message(2, 0, st.charged);
-    };
-    copy_own(def, call, buf, m, st, next)
+    subst_binder_slot(s, c, span)?;
+    let next = past_type(&s.definition, c.place).ok_or(Refusal::MALFORMED)?;
+    s.copy_own(c, next);
+    Ok(())
 }
 
 // A list of slots and their types.
-#[tactic(auto, using(crate::proofs::Items::item_walked, crate::proofs::Items::no_more, crate::proofs::Items::hands_on), unfolding(crate::specs::Parameters::binders_in))]
-pub fn subst_binders<'a>(
-    def: &'a [u8],
-    call: &'a [u8],
-    args: &[usize],
-    buf: &mut [u8],
-    m: SubstMaps,
-    span: u64,
-    w: Walk,
-) -> Walk
-    ensures { progress result buf.new ≡ binders_in (tapes def.now call.now args.now m) span (progress w buf.old) }
+#[tactic(auto, unfolding(crate::specs::Parameters::binders_in, nodes::specs::Node::span_of, nodes::specs::Node::refusal_of))]
+pub fn subst_binders(s: &Substitution, c: &mut Cursor, span: u64) -> Result<(), Refused>
+    ensures { Walks c.old c.new result (binders_in (tapes_of s.now) span (going_at c.old)) }
 {
-    let Walk::Going(st) = w else {
-        return w;
-    };
-    let Some((count, first)) = expect(def, m.definition, st.place, code::LIST) else {
-        return without_message(2, 0, st.charged);
-    };
-    let mut a = copy_own(def, call, buf, m, st, first);
+    let (count, first) = expect(&s.definition, c.place, code::LIST).ok_or(Refusal::MALFORMED)?;
+    s.copy_own(c, first);
+    binders(s, c, span, count)
+}
+
+#[tactic(auto, using(crate::proofs::Items::item_passed, crate::proofs::Items::turn_refused, crate::proofs::Items::items_passed))]
+fn binders(s: &Substitution, c: &mut Cursor, span: u64, count: u64) -> Result<(), Refused>
+    ensures { Walks c.old c.new result (items_in (binder_in (tapes_of s.now) span) count (going_at c.old)) }
+{
     for _ in 0..count {
-        let Walk::Going(_) = a else {
-            return a;
-        };
-        a = subst_binder(def, call, args, buf, m, span, a);
+        subst_binder(s, c, span)?;
     }
-    a
+    Ok(())
 }

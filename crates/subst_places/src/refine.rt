@@ -1,27 +1,26 @@
 // Refinements: what a base comes out as, and the fold of its fields.
 ghost use Rattle.std.specs.Prelude.{◌≡◌};
-ghost use Rattle.area.specs.Area.{area_in};
-ghost use Rattle.walk_state.specs.Writing.{progress};
+ghost use Rattle.walk_state.specs.Writing.{Walks, Makes, area_at, going_at};
+ghost use Rattle.subst_state.specs.Maps.{maps_at};
 ghost use Rattle.subst_places.specs.Refines.{sigil_shape_in, shape_in, fold_in, add_fields_in};
 
-use area::{Writer, patch_count};
 use grammar::code;
-use messages::{Reason, refuse};
+use messages::{Reason, Refused, refuse};
 use nodes::{Name, entry, expect};
-use subst_state::maps::{SubstMaps, arg_for};
-use tape::layout::{Place, of_area};
-use walk_state::writing::Walk;
+use subst_state::maps::Substitution;
+use tape::layout::Place;
+use walk_state::writing::Cursor;
 
 // The code of the condition that a base comes out as. It is read from the input, since a full output has it no more.
 #[tactic(auto, unfolding(crate::specs::Refines::shape_in))]
-pub fn shape_of(def: &[u8], args: &[usize], m: SubstMaps, p: Place) -> u8
-    ensures { result ≡ shape_in def.now args.now m p }
+pub fn shape_of(s: &Substitution, p: Place) -> u8
+    ensures { result ≡ shape_in s.now.definition.bytes.now s.now.args.now (maps_at s.now) p }
 {
-    let Some((code, _, next)) = entry(def, m.definition, p) else {
+    let Some((code, _, next)) = entry(&s.definition, p) else {
         return 0;
     };
     match code {
-        code::SIGIL_REF => sigil_shape(def, args, m, next),
+        code::SIGIL_REF => sigil_shape(s, next),
         // a refinement that was not refused is folded, so it is a predicate
         code::REFINE => code::PREDICATE,
         _ => code,
@@ -30,17 +29,17 @@ pub fn shape_of(def: &[u8], args: &[usize], m: SubstMaps, p: Place) -> u8
 
 // A `?` comes out as its argument; no other sigil comes out.
 #[tactic(auto, unfolding(crate::specs::Refines::sigil_shape_in))]
-fn sigil_shape(def: &[u8], args: &[usize], m: SubstMaps, p: Place) -> u8
-    ensures { result ≡ sigil_shape_in def.now args.now m p }
+fn sigil_shape(s: &Substitution, p: Place) -> u8
+    ensures { result ≡ sigil_shape_in s.now.definition.bytes.now s.now.args.now (maps_at s.now) p }
 {
-    let Some((size, _)) = expect(def, m.definition, p, code::SIGIL_PARAM) else {
+    let Some((size, _)) = expect(&s.definition, p, code::SIGIL_PARAM) else {
         return code::SIGIL_REF;
     };
     let name = Name {
         text: p.text,
         size: size as usize,
     };
-    let Some(arg) = arg_for(def, args, m, name) else {
+    let Some(arg) = s.arg_for(name) else {
         return code::SIGIL_REF;
     };
     arg.root
@@ -49,36 +48,38 @@ fn sigil_shape(def: &[u8], args: &[usize], m: SubstMaps, p: Place) -> u8
 // The fields of a refinement stand behind the condition that was written at entry `base`: a predicate takes them over, and any other
 // is 47.
 #[tactic(auto, unfolding(crate::specs::Refines::fold_in))]
-pub fn fold_refine(buf: &mut [u8], base: usize, count: u64, own: u64, shape: u8, w: Walk) -> Walk
-    ensures { progress result buf.new ≡ fold_in base count own shape (progress w buf.old) }
+pub fn fold_refine(
+    c: &mut Cursor,
+    base: usize,
+    count: u64,
+    own: u64,
+    shape: u8,
+) -> Result<(), Refused>
+    ensures { Walks c.old c.new result (fold_in base count own shape (going_at c.old)) }
 {
-    let Walk::Going(st) = w else {
-        return w;
-    };
     if shape != code::PREDICATE {
-        return Walk::Refused(refuse(own, Reason::NotAPredicate(shape)), st.charged);
+        return Err(refuse(own, Reason::NotAPredicate(shape)));
     }
-    add_fields(buf, base, count, st.out);
-    w
+    add_fields(c, base, count);
+    Ok(())
 }
 
 // The count of a predicate's fields stands behind its span, its namespace, its action and its kind.
 #[tactic(auto, unfolding(crate::specs::Refines::add_fields_in))]
-fn add_fields(buf: &mut [u8], base: usize, count: u64, out: Writer)
-    ensures { area_in out buf.new ≡ add_fields_in base count (area_in out buf.old) }
+fn add_fields(c: &mut Cursor, base: usize, count: u64)
+    ensures { Makes c.old c.new (add_fields_in base count (area_at c.old)) }
 {
     if 1024 < base {
         return;
     }
-    let l = of_area(out.base, out.n, out.t);
     let list = Place {
         at: base + 2,
         text: 0,
     };
-    let Some((namespace, _)) = expect(buf, l, list, code::LIST) else {
+    let Some((namespace, _)) = expect(&c.written(), list, code::LIST) else {
         return;
     };
     if namespace < 1024 {
-        patch_count(buf, out, base + 5 + namespace as usize, count);
+        c.patch_count(base + 5 + namespace as usize, count);
     }
 }

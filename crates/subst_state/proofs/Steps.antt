@@ -8,8 +8,9 @@ use mathlib.Core.Path.{◌≡◌, refl, sym, ap, ◌∙◌}
 use mathlib.Core.Bool.{Bool, true, false}
 use mathlib.Core.List.{List, [], ◌∷◌}
 use lib.Dec.{leb}
-use lib.ListN.{length, take, drop, set, length-drop}
-use lib.Seq.{sets, slice, take_all, take-nil}
+use lib.ListN.{length, take, drop, get_or, length-drop}
+use Rattle.std.specs.Prelude.{slice_set}
+use lib.Seq.{slice, take_all, take-nil}
 use borrow.Author.Tests.{leb-true, leb-false, lt-leb, le-leb}
 use Rattle.std.proofs.lemmas.List.{drop_all}
 use Rattle.format.specs.Stands.{part}
@@ -20,7 +21,7 @@ use Rattle.tape.specs.declared.layout.Layout.{Layout}
 use Rattle.tape.specs.declared.layout.Place.{Place}
 use Rattle.nodes.specs.declared.Name.{Name}
 use Rattle.nodes.specs.Node.{param_at}
-use Rattle.subst_state.specs.Arguments.{row_of, measure_at, table_from, argument_in, search_from}
+use Rattle.subst_state.specs.Arguments.{measure_at, table_from, argument_in, search_from}
 use Rattle.subst_state.specs.Output.{charge_of}
 use Rattle.subst_state.specs.declared.maps.Argument.{Argument}
 
@@ -92,26 +93,8 @@ module _ (which : Bool) (s t : List ℕ) (base from to : ℕ) (h : length s ≤ 
 
 -- ------------------------------------------------------------------ the table of arguments
 
--- six numbers, one behind the other
-pub row_written : (t : List ℕ) (k : ℕ) (a : Argument)
-    → set
-    (set
-    (set
-    (set (set (set t k a.from.at) (k + 1) a.from.text) (k + 2) a.to.at)
-    (k + 3) a.to.text)
-    (k + 4) a.root)
-    (k + 5) a.size
-    ≡ sets t k (row_of a)
-row_written t k a =
-    let e₁ : k + 1 ≡ suc k = omega arith in
-    let e₂ : k + 2 ≡ suc (suc k) = omega arith in
-    let e₃ : k + 3 ≡ suc (suc (suc k)) = omega arith in
-    let e₄ : k + 4 ≡ suc (suc (suc (suc k))) = omega arith in
-    let e₅ : k + 5 ≡ suc (suc (suc (suc (suc k)))) = omega arith in
-    rw (e₁, e₂, e₃, e₄, e₅)
-
 -- the loop that writes the table, with j of n arguments written
-module _ (s : List ℕ) (l : Layout) (n j : ℕ) (p : Place) (k : ℕ) (t : List ℕ) where
+module _ (s : List ℕ) (l : Layout) (n j : ℕ) (p : Place) (k : ℕ) (t : List Argument) where
   pub table_done : n ≤ j → table_from s l (n - j) p k t ≡ t
   unfolding table_from
   table_done h = let e : n - j ≡ 0 = omega (arith, h) in ap (λ (m : ℕ). table_from s l m p k t) e
@@ -120,24 +103,37 @@ module _ (s : List ℕ) (l : Layout) (n j : ℕ) (p : Place) (k : ℕ) (t : List
     opened : table_from s l (n - j) p k t ≡ table_from s l (suc (n - (j + 1))) p k t
     opened = let e : n - j ≡ suc (n - (j + 1)) = omega (arith, some) in ap (λ (m : ℕ). table_from s l m p k t) e
 
-    pub table_full : length t < k + 6 → table_from s l (n - j) p k t ≡ t
+    pub table_full : length t ≤ k → table_from s l (n - j) p k t ≡ t
     unfolding table_from
-    table_full h = rw (opened, lt-leb (k + 6) (length t) h)
+    table_full h = rw (opened, lt-leb (k + 1) (length t) (omega (arith, h)))
 
-    module _ (room : k + 6 ≤ length t) where
+    module _ (room : k < length t) where
       pub table_none : None ≡ measure_at s l p → table_from s l (n - j) p k t ≡ t
       unfolding table_from
-      table_none e = rw (opened, le-leb (k + 6) (length t) room, ← e)
+      table_none e = rw (opened, le-leb (k + 1) (length t) (omega (arith, room)), ← e)
 
       pub table_more : {a : Argument} → Some a ≡ measure_at s l p
-          → table_from s l (n - j) p k t ≡ table_from s l (n - (j + 1)) a.to (k + 6) (sets t k (row_of a))
+          → table_from s l (n - j) p k t ≡ table_from s l (n - (j + 1)) a.to (k + 1) (slice_set t k a)
       unfolding table_from
-      table_more e = rw (opened, le-leb (k + 6) (length t) room, ← e)
+      table_more e = rw (opened, le-leb (k + 1) (length t) (omega (arith, room)), ← e)
+
+-- the argument at an index, where the table has it and where it has not
+pub argument_there : (t : List Argument) (i : ℕ) (other : Argument) → i < length t → Some (get_or t i other) ≡ argument_in t i
+unfolding argument_in
+argument_there [] i other h = absurd (omega (arith, h))
+argument_there (a ∷ t) zero other h = refl
+argument_there (a ∷ t) (suc i) other h = argument_there t i other (omega (arith, h))
+
+pub argument_past : (t : List Argument) (i : ℕ) → length t ≤ i → None ≡ argument_in t i
+unfolding argument_in
+argument_past [] i h = refl
+argument_past (a ∷ t) zero h = absurd (omega (arith, h))
+argument_past (a ∷ t) (suc i) h = argument_past t i (omega (arith, h))
 
 -- ------------------------------------------------------------------ a search
 
 -- the loop that searches, with j of n parameters looked at
-module _ (s : List ℕ) (l : Layout) (table : List ℕ) (name : Name) (n j : ℕ) (p : Place) (other : Option Argument) where
+module _ (s : List ℕ) (l : Layout) (table : List Argument) (name : Name) (n j : ℕ) (p : Place) (other : Option Argument) where
   pub search_done : n ≤ j → search_from s l table name (n - j) p j other ≡ other
   unfolding search_from
   search_done h = let e : n - j ≡ 0 = omega (arith, h) in ap (λ (m : ℕ). search_from s l table name m p j other) e

@@ -1,8 +1,7 @@
 -- The arguments of a call: what the table of them holds, and which one a parameter's name finds.
 -- Assumes nothing.
 use Rattle.nodes.specs.declared.Refusal.{Refusal}
-use Rattle.std.specs.Prelude.{ℕ, zero, suc, ◌+◌, ◌*◌, ◌%◌, List, [], ◌∷◌, leb, length, get_or, Option, Some, None, Result, Ok, Err}
-use Rattle.std.proofs.lemmas.List.Edits.{sets}
+use Rattle.std.specs.Prelude.{ℕ, zero, suc, ◌+◌, List, [], ◌∷◌, leb, length, slice_set, Option, Some, None, Result, Ok, Err}
 use Rattle.grammar.specs.Grammar as grammar
 use Rattle.definition.specs.Text.{eq_text}
 use Rattle.tape.specs.Pick.{pick}
@@ -16,7 +15,7 @@ use Rattle.nodes.specs.declared.ArgNode.{ArgNode}
 use Rattle.nodes.specs.declared.ArgNode.TheVariants as kind
 use Rattle.nodes.specs.Node.{param_at}
 use Rattle.subst_state.specs.declared.maps.Argument.{Argument}
-use Rattle.subst_state.specs.declared.maps.SubstMaps.{SubstMaps}
+use Rattle.subst_state.specs.Maps.{SubstMaps}
 
 -- ------------------------------------------------------------------ cases
 
@@ -54,35 +53,24 @@ measure_at s l p =
     (entry_at s l from))
     (argument_at s l p)
 
--- an argument's six numbers
-abbrev pub row_of : Argument → List ℕ
-row_of a = a.from.at ∷ a.from.text ∷ a.to.at ∷ a.to.text ∷ a.root ∷ a.size ∷ []
-
--- the rows of n arguments from a place on, written from index k on, as far as the table reaches
-unfoldable pub table_from : List ℕ → Layout → ℕ → Place → ℕ → List ℕ → List ℕ
+-- the n arguments from a place on, written from index k on, as far as the table reaches
+unfoldable pub table_from : List ℕ → Layout → ℕ → Place → ℕ → List Argument → List Argument
 table_from s l zero p k table = table
 table_from s l (suc n) p k table =
-    pick (leb (k + 6) (length table))
-    (on_found table (λ a. table_from s l n a.to (k + 6) (sets table k (row_of a))) (measure_at s l p))
+    pick (leb (k + 1) (length table))
+    (on_found table (λ a. table_from s l n a.to (k + 1) (slice_set table k a)) (measure_at s l p))
     table
 
 -- ------------------------------------------------------------------ a search
 
--- the argument of row i
-unfoldable pub argument_in : List ℕ → ℕ → Option Argument
-argument_in table i =
-    pick (leb (6 * i + 6) (length table))
-    (Some
-    (record {
-      from = record { at = get_or table (6 * i) 0; text = get_or table (6 * i + 1) 0 };
-      to = record { at = get_or table (6 * i + 2) 0; text = get_or table (6 * i + 3) 0 };
-      root = get_or table (6 * i + 4) 0 % 256;
-      size = get_or table (6 * i + 5) 0;
-    }))
-    None
+-- the argument at index i
+unfoldable pub argument_in : List Argument → ℕ → Option Argument
+argument_in [] i = None
+argument_in (a ∷ table) zero = Some a
+argument_in (a ∷ table) (suc i) = argument_in table i
 
 -- the argument of the last of n parameters, from a place and from row i on, that has the name; `other` where there is none
-unfoldable pub search_from : List ℕ → Layout → List ℕ → Name → ℕ → Place → ℕ → Option Argument → Option Argument
+unfoldable pub search_from : List ℕ → Layout → List Argument → Name → ℕ → Place → ℕ → Option Argument → Option Argument
 search_from s l table name zero p i other = other
 search_from s l table name (suc n) p i other =
     on_param other
@@ -92,5 +80,5 @@ search_from s l table name (suc n) p i other =
     (param_at s l p)
 
 -- the definition's tape, the table, and the name of a `?`
-unfoldable pub arg_for : List ℕ → List ℕ → SubstMaps → Name → Option Argument
+unfoldable pub arg_for : List ℕ → List Argument → SubstMaps → Name → Option Argument
 arg_for def table m name = search_from def m.definition table name m.count m.params 0 None

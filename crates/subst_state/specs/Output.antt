@@ -13,11 +13,11 @@ use Rattle.messages.specs.Reason.{refused_at}
 use Rattle.messages.specs.declared.Reason.TheVariants.{Budget}
 use Rattle.messages.specs.declared.Refused.{Refused}
 use Rattle.walk_state.specs.Writing.{Progress, progress, state, going, after}
-use Rattle.walk_state.specs.declared.writing.State.{State}
-use Rattle.walk_state.specs.declared.writing.Walk.{Walk}
-use Rattle.walk_state.specs.declared.writing.Walk.TheVariants as walk
+use Rattle.walk_state.specs.Walk.{State}
+use Rattle.walk_state.specs.Walk.{Walk}
+use Rattle.walk_state.specs.Walk as walk
 use Rattle.subst_state.specs.declared.maps.Argument.{Argument}
-use Rattle.subst_state.specs.declared.maps.SubstMaps.{SubstMaps}
+use Rattle.subst_state.specs.Maps.{SubstMaps}
 
 -- ------------------------------------------------------------------ the budget
 

@@ -1,21 +1,22 @@
 // What a substitution knows of its definition and its call, and the budget.
-ghost use Rattle.std.specs.Prelude.{◌≡◌, ◌+◌, ◌≤◌, length};
-ghost use Rattle.std.proofs.lemmas.List.Edits.{sets};
-ghost use Rattle.subst_state.specs.Arguments.{sort_of, measure_at, row_of, table_from, argument_in, arg_for};
+ghost use Rattle.std.specs.Prelude.{◌≡◌};
+ghost use Rattle.subst_state.specs.Maps.{maps_at};
+ghost use Rattle.subst_state.specs.Arguments.{sort_of, measure_at, table_from, argument_in, arg_for};
 ghost use Rattle.subst_state.specs.Output.{charge_of};
 
 use grammar::codes::{CONDITION, INTERVAL, TERM};
 use nodes::{ArgNode, Name, entry, name_at, read_argument, read_param};
-use tape::layout::{Layout, Place};
+use tape::layout::{Place, Tape};
 use tape::scan::skip;
 use tape::text::size;
 
-// The Rust's `SubstMaps`: the layouts of the two tapes, where the parameters stand and how many they are, and what messages, charges
-// and generated names want.
-#[derive(Clone, Copy, Debug, PartialEq, Eq)]
-pub struct SubstMaps {
-    pub definition: Layout,
-    pub call: Layout,
+// The Rust's `SubstMaps` with the tapes that they speak of: the definition's and the call's, the call's arguments, found and measured
+// once, where the parameters stand and how many they are, and what messages, charges and generated names want.
+#[derive(Clone, Copy, Debug)]
+pub struct Substitution<'a> {
+    pub definition: Tape<'a>,
+    pub call: Tape<'a>,
+    pub args: &'a [Argument],
     pub params: Place,
     pub count: u64,
     pub macro_name: Name,
@@ -31,6 +32,37 @@ pub struct Argument {
     pub to: Place,
     pub root: u8,
     pub size: usize,
+}
+
+impl Argument {
+    // What a table of arguments holds before they are found.
+    pub const NONE: Argument = Argument {
+        from: Place { at: 0, text: 0 },
+        to: Place { at: 0, text: 0 },
+        root: 0,
+        size: 0,
+    };
+}
+
+impl Substitution<'_> {
+    // The argument of the last parameter with this name.
+    #[tactic(auto, using(crate::proofs::Steps::search_done, crate::proofs::Steps::search_end, crate::proofs::Steps::search_hit, crate::proofs::Steps::search_miss, nodes::proofs::Texts::equal_texts), unfolding(crate::specs::Arguments::arg_for))]
+    pub fn arg_for(&self, name: Name) -> Option<Argument>
+        ensures { result ≡ arg_for self.now.definition.bytes.now self.now.args.now (maps_at self.now) name }
+    {
+        let mut found = None;
+        let mut p = self.params;
+        for i in 0..self.count {
+            let Some((param, next)) = read_param(&self.definition, p) else {
+                return found;
+            };
+            if name_at(&self.definition, param) == name_at(&self.definition, name) {
+                found = argument_at(self.args, i as usize);
+            }
+            p = next;
+        }
+        found
+    }
 }
 
 // A charge that would take the sum above the limit is not added.
@@ -58,13 +90,13 @@ fn sort_of(kind: ArgNode) -> u64
 
 // The argument whose first entry, a 55, 56 or 57, stands at a place.
 #[tactic(auto, unfolding(crate::specs::Arguments::measure_at))]
-fn measure(s: &[u8], l: Layout, p: Place) -> Option<Argument>
-    ensures { result ≡ measure_at s.now l p }
+fn measure(tape: &Tape, p: Place) -> Option<Argument>
+    ensures { result ≡ measure_at tape.now.bytes.now tape.now.layout p }
 {
-    let (kind, from) = read_argument(s, l, p).ok()?;
-    let (root, _, _) = entry(s, l, from)?;
-    let to = skip(s, l, from, sort_of(kind))?;
-    let size = size(s, l, from.at, to.at);
+    let (kind, from) = read_argument(tape, p).ok()?;
+    let (root, _, _) = entry(tape, from)?;
+    let to = skip(tape, from, sort_of(kind))?;
+    let size = size(tape, from.at, to.at);
     Some(Argument {
         from,
         to,
@@ -73,87 +105,31 @@ fn measure(s: &[u8], l: Layout, p: Place) -> Option<Argument>
     })
 }
 
-// Writes an argument's six numbers into the table.
-#[tactic(auto, using(crate::proofs::Steps::row_written))]
-fn put_argument(args: &mut [usize], k: usize, a: Argument)
-    requires { k + 6 ≤ length args.old }
-    ensures { args.new ≡ sets args.old k (row_of a) }
-{
-    args[k] = a.from.at;
-    args[k + 1] = a.from.text;
-    args[k + 2] = a.to.at;
-    args[k + 3] = a.to.text;
-    args[k + 4] = a.root as usize;
-    args[k + 5] = a.size;
-}
-
-// The table of a call's arguments, six numbers for each: they are found and measured once, and not at every paste. `first` is the
-// place of the first, and the table has room for as many as it has.
+// The table of a call's arguments: they are found and measured once, and not at every paste. `first` is the place of the first, and
+// the table has room for as many as it has.
 #[tactic(auto, using(crate::proofs::Steps::table_done, crate::proofs::Steps::table_full, crate::proofs::Steps::table_none, crate::proofs::Steps::table_more))]
-pub fn find_arguments(s: &[u8], l: Layout, first: Place, count: u64, args: &mut [usize])
-    ensures { args.new ≡ table_from s.now l count first 0 args.old }
+pub fn find_arguments(tape: &Tape, first: Place, count: u64, args: &mut [Argument])
+    ensures { args.new ≡ table_from tape.now.bytes.now tape.now.layout count first 0 args.old }
 {
     let mut p = first;
     let mut k: usize = 0;
     for _ in 0..count {
-        if args.len() - k < 6 {
+        if args.len() <= k {
             return;
         }
-        let Some(a) = measure(s, l, p) else {
+        let Some(a) = measure(tape, p) else {
             return;
         };
-        put_argument(args, k, a);
+        args[k] = a;
         p = a.to;
-        k += 6;
+        k += 1;
     }
 }
 
 // The argument at an index of the table.
-#[tactic(auto, unfolding(crate::specs::Arguments::argument_in))]
-fn argument_at(args: &[usize], i: usize) -> Option<Argument>
+#[tactic(auto, using(crate::proofs::Steps::argument_there, crate::proofs::Steps::argument_past))]
+fn argument_at(args: &[Argument], i: usize) -> Option<Argument>
     ensures { result ≡ argument_in args.now i }
 {
-    // whether six numbers stand behind 6 * i others, without a division by six: document 02, point 2
-    if args.len() / 4 <= i {
-        return None;
-    }
-    let left = args.len() - 4 * i;
-    if left < 6 || (left - 6) / 2 < i {
-        return None;
-    }
-    let k = 6 * i;
-    let from = Place {
-        at: args[k],
-        text: args[k + 1],
-    };
-    let to = Place {
-        at: args[k + 2],
-        text: args[k + 3],
-    };
-    Some(Argument {
-        from,
-        to,
-        root: (args[k + 4] % 256) as u8,
-        size: args[k + 5],
-    })
-}
-
-// The argument of the last parameter with this name.
-#[tactic(auto, using(crate::proofs::Steps::search_done, crate::proofs::Steps::search_end, crate::proofs::Steps::search_hit, crate::proofs::Steps::search_miss, nodes::proofs::Texts::equal_texts), unfolding(crate::specs::Arguments::arg_for))]
-pub fn arg_for(def: &[u8], args: &[usize], m: SubstMaps, name: Name) -> Option<Argument>
-    ensures { result ≡ arg_for def.now args.now m name }
-{
-    let l = m.definition;
-    let mut found = None;
-    let mut p = m.params;
-    for i in 0..m.count {
-        let Some((param, next)) = read_param(def, l, p) else {
-            return found;
-        };
-        if name_at(def, l, param) == name_at(def, l, name) {
-            found = argument_at(args, i as usize);
-        }
-        p = next;
-    }
-    found
+    if i < args.len() { Some(args[i]) } else { None }
 }

@@ -1,97 +1,109 @@
 // Runs of entries: the parts of a tape or of a work area that spell the entries from one place to another, and their copy.
-ghost use Rattle.std.specs.Prelude.{◌≡◌, ◌+◌, ◌-◌, ◌*◌};
+ghost use Rattle.std.specs.Prelude.{◌≡◌, ◌+◌, ◌*◌};
 ghost use Rattle.std.proofs.Math.Seq.{slice};
-ghost use Rattle.area.specs.Area.{area_in};
+ghost use Rattle.format.specs.Stands.{part};
 ghost use Rattle.tape.specs.Pick.{pick};
+ghost use Rattle.walk_state.specs.Writing.{Makes, area_at};
 ghost use Rattle.subst_state.specs.Output.{copy_in};
 
-use area::{Writer, append_run};
-use tape::layout::{Layout, Place};
-use tape::part::{behind, part, values_behind};
+use tape::layout::{Layout, Place, Tape};
+use tape::part::{behind, part_of, values_behind};
+use walk_state::writing::Cursor;
 
-// How far `to` is behind `from`.
-pub fn distance(from: usize, to: usize) -> usize
-    ensures { result ≡ to - from }
+// The `len` bytes from `start` on of one of two lent tapes, of the call's or else of the definition's, as far as it reaches. A run to be
+// copied comes from either (document 01).
+fn part<'a>(
+    definition: &Tape<'a>,
+    call: &Tape<'a>,
+    of_call: bool,
+    start: usize,
+    len: usize,
+) -> &'a [u8]
+    ensures { result.now ≡ part (pick of_call call.now.bytes.now definition.now.bytes.now) start len }
 {
-    if from < to { to - from } else { 0 }
+    if of_call {
+        part_of(call.bytes, start, len)
+    } else {
+        part_of(definition.bytes, start, len)
+    }
+}
+
+// Where the sections of that tape start.
+fn layout_of(definition: &Tape, call: &Tape, of_call: bool) -> Layout
+    ensures { result ≡ pick of_call call.now.layout definition.now.layout }
+{
+    if of_call {
+        call.layout
+    } else {
+        definition.layout
+    }
 }
 
 #[tactic(auto, using(crate::proofs::Steps::bytes_between))]
 fn codes_between<'a>(
-    def: &'a [u8],
-    call: &'a [u8],
+    definition: &Tape<'a>,
+    call: &Tape<'a>,
     of_call: bool,
-    l: Layout,
     from: Place,
     to: Place,
 ) -> &'a [u8]
-    ensures { result.now ≡ slice (l.codes + from.at) (l.codes + to.at) (pick of_call call.now def.now) }
+    ensures { result.now ≡ slice ((pick of_call call.now.layout definition.now.layout).codes + from.at) ((pick of_call call.now.layout definition.now.layout).codes + to.at) (pick of_call call.now.bytes.now definition.now.bytes.now) }
 {
-    part(
-        def,
-        call,
-        of_call,
-        behind(l.codes, from.at),
-        distance(from.at, to.at),
-    )
+    let start = layout_of(definition, call, of_call).codes;
+    let count = to.at.saturating_sub(from.at);
+    part(definition, call, of_call, behind(start, from.at), count)
 }
 
 #[tactic(auto, using(crate::proofs::Steps::eights_between))]
 fn values_between<'a>(
-    def: &'a [u8],
-    call: &'a [u8],
+    definition: &Tape<'a>,
+    call: &Tape<'a>,
     of_call: bool,
-    l: Layout,
     from: Place,
     to: Place,
 ) -> &'a [u8]
-    ensures { result.now ≡ slice (l.values + 8 * from.at) (l.values + 8 * to.at) (pick of_call call.now def.now) }
+    ensures { result.now ≡ slice ((pick of_call call.now.layout definition.now.layout).values + 8 * from.at) ((pick of_call call.now.layout definition.now.layout).values + 8 * to.at) (pick of_call call.now.bytes.now definition.now.bytes.now) }
 {
+    let start = layout_of(definition, call, of_call).values;
+    let count = values_behind(0, to.at.saturating_sub(from.at));
     part(
-        def,
+        definition,
         call,
         of_call,
-        values_behind(l.values, from.at),
-        values_behind(0, distance(from.at, to.at)),
+        values_behind(start, from.at),
+        count,
     )
 }
 
 #[tactic(auto, using(crate::proofs::Steps::bytes_between))]
 pub fn text_between<'a>(
-    def: &'a [u8],
-    call: &'a [u8],
+    definition: &Tape<'a>,
+    call: &Tape<'a>,
     of_call: bool,
-    l: Layout,
     from: Place,
     to: Place,
 ) -> &'a [u8]
-    ensures { result.now ≡ slice (l.text + from.text) (l.text + to.text) (pick of_call call.now def.now) }
+    ensures { result.now ≡ slice ((pick of_call call.now.layout definition.now.layout).text + from.text) ((pick of_call call.now.layout definition.now.layout).text + to.text) (pick of_call call.now.bytes.now definition.now.bytes.now) }
 {
-    part(
-        def,
-        call,
-        of_call,
-        behind(l.text, from.text),
-        distance(from.text, to.text),
-    )
+    let start = layout_of(definition, call, of_call).text;
+    let count = to.text.saturating_sub(from.text);
+    part(definition, call, of_call, behind(start, from.text), count)
 }
 
-// Appends the entries from one place to another, of the call's tape or of the definition's.
+// Appends the entries from one place to another, of the call's tape or else of the definition's.
 #[tactic(auto, unfolding(crate::specs::Output::copy_in))]
 pub fn copy<'a>(
-    def: &'a [u8],
-    call: &'a [u8],
+    definition: &Tape<'a>,
+    call: &Tape<'a>,
     of_call: bool,
-    l: Layout,
     from: Place,
     to: Place,
-    buf: &mut [u8],
-    out: Writer,
-) -> Writer
-    ensures { area_in result buf.new ≡ copy_in (pick of_call call.now def.now) l from to (area_in out buf.old) }
+    c: &mut Cursor,
+)
+    ensures { Makes c.old c.new (copy_in (pick of_call call.now.bytes.now definition.now.bytes.now) (pick of_call call.now.layout definition.now.layout) from to (area_at c.old)) }
 {
-    let codes = codes_between(def, call, of_call, l, from, to);
-    let values = values_between(def, call, of_call, l, from, to);
-    let text = text_between(def, call, of_call, l, from, to);
-    append_run(buf, out, codes, values, text)
+    let codes = codes_between(definition, call, of_call, from, to);
+    let values = values_between(definition, call, of_call, from, to);
+    let text = text_between(definition, call, of_call, from, to);
+    c.append(codes, values, text);
 }

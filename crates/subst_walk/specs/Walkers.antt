@@ -25,8 +25,8 @@ use Rattle.subst_places.specs.Parameters.{
   binders_in,
 }
 use Rattle.subst_places.specs.Refines.{shape_in, fold_in}
-use Rattle.walk_state.specs.declared.writing.State.{State}
-use Rattle.walk_state.specs.declared.writing.Walk.TheVariants as walk
+use Rattle.walk_state.specs.Walk.{State}
+use Rattle.walk_state.specs.Walk as walk
 use Rattle.subst_places.specs.declared.places.Interval.{Interval}
 use Rattle.messages.specs.declared.Refused.{Refused}
 

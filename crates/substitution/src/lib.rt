@@ -9,49 +9,47 @@ ghost use Rattle.substitution.specs.Substituted.{AnswersSubstitution};
 
 use answer::tapes::accept_two;
 use answer::{Answer, answer_walk, long_buffers, number_alone};
-use de_morgan::{rewrite, without_or};
+use de_morgan::{rewritten_in, without_or};
 use grammar::codes::{CALL, DEFINITION};
 use subst_call::substitute_tapes;
-use tape::layout::Layout;
+use tape::layout::Tape;
+use walk_state::writing::Cursor;
 
 // The walk over two tapes, and its answer.
 #[tactic(auto, unfolding(crate::specs::Substituted::AnswersSubstitution))]
 fn substitute_in<'a>(
-    definition: &'a [u8],
-    d: Layout,
-    call: &'a [u8],
-    c: Layout,
+    definition: &Tape<'a>,
+    call: &Tape<'a>,
     limit: u32,
     file: u16,
     res: &mut [u8],
     work: &mut [u8],
     message: &mut [u8],
 ) -> Answer
-    ensures { AnswersSubstitution definition.now d call.now c limit file work.old (buffers (length res.old) (length work.old) (length message.old)) (answer_with result res.new work.new message.new) }
+    ensures { AnswersSubstitution definition.now.bytes.now definition.now.layout call.now.bytes.now call.now.layout limit file work.old (buffers (length res.old) (length work.old) (length message.old)) (answer_with result res.new work.new message.new) }
 {
-    let w = substitute_tapes(definition, d, call, c, limit, file, work);
-    answer_walk(definition, d, call, c, w, res, work, message)
+    let mut c = Cursor::new(work);
+    let walked = substitute_tapes(definition, call, limit, file, &mut c);
+    answer_walk(definition, call, walked, &mut c, res, message)
 }
 
 // The same over the rewritten tapes, for which there is room here: most tapes have no Or.
 fn substitute_rewritten(
-    definition: &[u8],
-    d: Layout,
-    call: &[u8],
-    c: Layout,
+    definition: &Tape,
+    call: &Tape,
     limit: u32,
     file: u16,
     res: &mut [u8],
     work: &mut [u8],
     message: &mut [u8],
 ) -> Answer
-    ensures { AnswersSubstitution (rewritten_in definition.now d (replicate 12296 0)) (rewritten_layout definition.now d) (rewritten_in call.now c (replicate 12296 0)) (rewritten_layout call.now c) limit file work.old (buffers (length res.old) (length work.old) (length message.old)) (answer_with result res.new work.new message.new) }
+    ensures { AnswersSubstitution (rewritten_in definition.now.bytes.now definition.now.layout (replicate 12296 0)) (rewritten_layout definition.now.bytes.now definition.now.layout) (rewritten_in call.now.bytes.now call.now.layout (replicate 12296 0)) (rewritten_layout call.now.bytes.now call.now.layout) limit file work.old (buffers (length res.old) (length work.old) (length message.old)) (answer_with result res.new work.new message.new) }
 {
     let mut first = [0u8; 12296];
     let mut second = [0u8; 12296];
-    let e = rewrite(definition, d, &mut first);
-    let f = rewrite(call, c, &mut second);
-    substitute_in(&first, e, &second, f, limit, file, res, work, message)
+    let definition = rewritten_in(definition, &mut first);
+    let call = rewritten_in(call, &mut second);
+    substitute_in(&definition, &call, limit, file, res, work, message)
 }
 
 // The operation: the answer and every byte of the three buffers are what the definition says, for every input and every buffer.
@@ -68,13 +66,24 @@ pub fn substitute<'a>(
     ensures { answer_with result res.new work.new message.new ≡ substitute_answer (buffers (length res.old) (length work.old) (length message.old)) limit file definition.now call.now }
 {
     if !long_buffers(res.len(), work.len(), message.len()) {
-        return number_alone(1, 0, res, work, message);
+        return number_alone(numbers::SHORT_BUFFER, 0, res, work, message);
     }
     match accept_two(definition, DEFINITION, call, CALL) {
         Err(fault) => number_alone(fault.number(), 0, res, work, message),
-        Ok((d, c)) if without_or(definition, d, call, c) => {
-            substitute_in(definition, d, call, c, limit, file, res, work, message)
+        Ok((d, c)) => {
+            let definition = Tape {
+                bytes: definition,
+                layout: d,
+            };
+            let call = Tape {
+                bytes: call,
+                layout: c,
+            };
+            if without_or(&definition, &call) {
+                substitute_in(&definition, &call, limit, file, res, work, message)
+            } else {
+                substitute_rewritten(&definition, &call, limit, file, res, work, message)
+            }
         }
-        Ok((d, c)) => substitute_rewritten(definition, d, call, c, limit, file, res, work, message),
     }
 }

@@ -3,7 +3,7 @@ ghost use Rattle.std.specs.Prelude.{◌≡◌};
 ghost use Rattle.tape.specs.Accept.{accept_by, accept_in, accept_named, accept_of, judged};
 
 use crate::header::{Fault, open};
-use crate::layout::{Layout, Place};
+use crate::layout::{Layout, Place, Tape};
 use crate::ors::fits_rewritten;
 use crate::scan::scan;
 use grammar::codes::table;
@@ -29,26 +29,34 @@ pub fn accept_by(grammar: &[u64], longest: u64, s: &[u8], sort: u64) -> Result<L
     ensures { result ≡ accept_by grammar.now longest s.now sort }
 {
     let l = open(s)?;
-    accept_in(grammar, longest, s, l, sort)
+    accept_in(
+        grammar,
+        longest,
+        &Tape {
+            bytes: s,
+            layout: l,
+        },
+        sort,
+    )
 }
 
-fn accept_in(grammar: &[u64], longest: u64, s: &[u8], l: Layout, sort: u64) -> Result<Layout, Fault>
-    ensures { result ≡ accept_in grammar.now longest s.now sort l }
+fn accept_in(grammar: &[u64], longest: u64, tape: &Tape, sort: u64) -> Result<Layout, Fault>
+    ensures { result ≡ accept_in grammar.now longest tape.now.bytes.now sort tape.now.layout }
 {
-    let found = scan(grammar, s, l, Place { at: 0, text: 0 }, sort, longest);
-    judge(s, l, found)
+    let found = scan(grammar, tape, Place { at: 0, text: 0 }, sort, longest);
+    judge(tape, found)
 }
 
 // A scan that ends where entries and text are used up found the root wanted.
-fn judge(s: &[u8], l: Layout, found: Option<(Place, bool)>) -> Result<Layout, Fault>
-    ensures { result ≡ judged s.now l found }
+fn judge(tape: &Tape, found: Option<(Place, bool)>) -> Result<Layout, Fault>
+    ensures { result ≡ judged tape.now.bytes.now tape.now.layout found }
 {
     let (p, over) = found.ok_or(Fault::Malformed)?;
-    if p.at != l.entries || p.text != l.size {
+    if p.at != tape.layout.entries || p.text != tape.layout.size {
         return Err(Fault::Malformed);
     }
-    if !over && fits_rewritten(s, l) {
-        Ok(l)
+    if !over && fits_rewritten(tape) {
+        Ok(tape.layout)
     } else {
         Err(Fault::TooLarge)
     }

@@ -14,6 +14,42 @@ pub struct Layout {
     pub size: usize,
 }
 
+// A slice, and where the sections of the tape in it start. A tape may be shorter than its layout says; `holds` tells.
+#[derive(Clone, Copy, Debug)]
+pub struct Tape<'a> {
+    pub bytes: &'a [u8],
+    pub layout: Layout,
+}
+
+impl Tape<'_> {
+    // Whether the slice has room for the codes and values of the layout, 1,024 entries at the most.
+    pub fn holds(&self) -> bool
+        ensures { result ≡ holds self.now.bytes.now self.now.layout }
+    {
+        let len = self.bytes.len();
+        let l = &self.layout;
+        l.entries <= 1024
+            && l.codes <= len
+            && l.values <= len
+            && l.entries <= len - l.codes
+            && 8 * l.entries <= len - l.values
+    }
+
+    pub fn code_at(&self, at: usize) -> u8
+        requires { self.now.layout.codes + at < length self.now.bytes.now }
+        ensures { result ≡ code_at self.now.bytes.now self.now.layout at }
+    {
+        self.bytes[self.layout.codes + at]
+    }
+
+    pub fn value_at(&self, at: usize) -> u64
+        requires { self.now.layout.values + 8 * at + 8 ≤ length self.now.bytes.now }
+        ensures { result ≡ value_at self.now.bytes.now self.now.layout at }
+    {
+        held_value(self.bytes, self.layout.values + 8 * at)
+    }
+}
+
 // An entry, and the offset of its text.
 #[derive(Clone, Copy, Debug, PartialEq, Eq)]
 pub struct Place {
@@ -56,31 +92,6 @@ pub fn of_area(base: usize, entries: usize, size: usize) -> Layout
             size: 0,
         }
     }
-}
-
-// Whether a slice has room for the codes and values of a layout, 1,024 entries at the most.
-pub fn holds(s: &[u8], l: Layout) -> bool
-    ensures { result ≡ holds s.now l }
-{
-    l.entries <= 1024
-        && l.codes <= s.len()
-        && l.values <= s.len()
-        && l.entries <= s.len() - l.codes
-        && 8 * l.entries <= s.len() - l.values
-}
-
-pub fn code_at(s: &[u8], l: Layout, at: usize) -> u8
-    requires { l.codes + at < length s.now }
-    ensures { result ≡ code_at s.now l at }
-{
-    s[l.codes + at]
-}
-
-pub fn value_at(s: &[u8], l: Layout, at: usize) -> u64
-    requires { l.values + 8 * at + 8 ≤ length s.now }
-    ensures { result ≡ value_at s.now l at }
-{
-    held_value(s, l.values + 8 * at)
 }
 
 // The text offset behind `width` bytes, as far as there is text.

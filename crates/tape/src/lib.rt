@@ -6,6 +6,7 @@ pub mod accept;
 pub mod ends;
 pub mod flat;
 pub mod header;
+pub mod held;
 pub mod layout;
 pub mod ors;
 pub mod part;

@@ -1,10 +1,11 @@
 // The Ors of a tape. Document 02, point 12, rewrites each to four entries, so that a tape has three entries more for each Or.
 ghost use Rattle.std.specs.Prelude.{◌≡◌, ◌≤◌, leb, length};
 ghost use Rattle.tape.specs.Flat.{sum_of, weight_of};
-ghost use Rattle.tape.specs.Layouts.{Held};
 ghost use Rattle.tape.specs.Ors.{ors_from, ors_in, rewritten_count};
 
-use crate::layout::{Layout, holds};
+use crate::held::HeldTape;
+use crate::layout::Tape;
+use grammar::code;
 
 // How many codes are this one. They are a layout's, so that a short number counts them, and many are compared at once.
 #[tactic(auto, unfolding(format::specs::Limits::weigh))]
@@ -22,24 +23,24 @@ pub fn count_in(codes: &[u8], code: u8) -> usize
 }
 
 #[tactic(auto, using(crate::proofs::Counting::ors_held))]
-pub fn count_held(s: &[u8], l: Layout) -> usize
-    requires { Held s.now l }
-    ensures { result ≡ ors_from s.now l 0 }
+pub fn count_held(held: &HeldTape) -> usize
+    ensures { result ≡ ors_from held.now.tape.bytes.now held.now.tape.layout 0 }
 {
-    count_in(&s[l.codes..l.codes + l.entries], 2)
+    count_in(held.codes(), code::OR)
 }
 
 // How many entries of a layout are an Or.
-pub fn count_ors(s: &[u8], l: Layout) -> usize
-    ensures { result ≡ ors_in s.now l }
+pub fn count_ors(tape: &Tape) -> usize
+    ensures { result ≡ ors_in tape.now.bytes.now tape.now.layout }
 {
-    if holds(s, l) { count_held(s, l) } else { 0 }
+    tape.held().map_or(0, |held| count_held(&held))
 }
 
 // Whether the rewritten tape has no more than 1,024 entries. Up to 256 it never has more, whatever they are.
 #[tactic(auto, using(crate::proofs::Counting::ors_in_most))]
-pub fn fits_rewritten(s: &[u8], l: Layout) -> bool
-    ensures { result ≡ leb (rewritten_count s.now l) 1024 }
+pub fn fits_rewritten(tape: &Tape) -> bool
+    ensures { result ≡ leb (rewritten_count tape.now.bytes.now tape.now.layout) 1024 }
 {
-    l.entries <= 256 || l.entries <= 1024 && l.entries + 3 * count_ors(s, l) <= 1024
+    tape.layout.entries <= 256
+        || tape.layout.entries <= 1024 && tape.layout.entries + 3 * count_ors(tape) <= 1024
 }

@@ -1,11 +1,12 @@
 // A list of vectors, one behind the other. A length has four bytes; what is shorter than its length ends with the list.
+use crate::operation::Kind;
 use buffer::{read_size, read_value};
 use tape::part::part_of;
 
-// Where a vector's parts begin, and its kind.
+// Where a vector's parts begin, and its kind: None where the list names no operation or number that there is.
 #[derive(Clone, Copy, Debug, PartialEq, Eq)]
 pub struct Vector {
-    pub kind: usize,
+    pub kind: Option<Kind>,
     pub limit: u32,
     pub file: u16,
     pub index: u32,
@@ -48,15 +49,6 @@ fn past_tape(s: &[u8], at: usize, has: bool) -> usize {
     if has { past_bytes(s, at) } else { at }
 }
 
-// 64 kinds for each operation, from 1 on: one for each number. Anything else is of kind 1.
-fn kind_of(operation: u32, number: u64) -> usize {
-    if operation <= 15 && number <= 63 {
-        64 * (operation as usize) + (number as usize)
-    } else {
-        1
-    }
-}
-
 pub fn read_vector(s: &[u8], at: usize) -> Vector {
     let limit = read_size(s, past(s, at, 1));
     let file = (read_size(s, past(s, at, 5)) % 65536) as u16;
@@ -72,7 +64,7 @@ pub fn read_vector(s: &[u8], at: usize) -> Vector {
     let given = past_bytes(s, message);
     let counted = past_bytes(s, given);
     Vector {
-        kind: kind_of(read_size(s, at) % 256, read_value(s, numbers)),
+        kind: Kind::new(read_size(s, at) % 256, read_value(s, numbers)),
         limit,
         file,
         index,

@@ -6,23 +6,19 @@ ghost use Rattle.std.specs.Prelude.{◌≤◌, IfOk, length};
 
 use crate::list::{read_vector, start};
 use crate::run::comes_out;
-use crate::tally::{count, print};
+use crate::tally::Tally;
 use buffer::read_size;
 use std::io;
 use std::io::Read;
 
 mod list;
+mod operation;
 mod run;
 mod tally;
 
 // Room for a list.
 fn room() -> [u8; 1048576] {
     [0; 1048576]
-}
-
-// A count for each kind.
-fn counts() -> [u64; 1024] {
-    [0; 1024]
 }
 
 fn main(rt: HostRuntime) -> io::Result<()> {
@@ -47,18 +43,13 @@ fn read_full(reader: &mut impl Read, buffer: &mut [u8]) -> io::Result<usize>
 }
 
 fn replay(rt: &impl Print, s: &[u8]) -> io::Result<()> {
-    let mut all = counts();
-    let mut good = counts();
+    let mut tally = Tally::new();
     let mut at = start(s);
     let vectors = read_size(s, 8);
     for _ in 0..vectors {
         let v = read_vector(s, at);
         at = v.next;
-        let kind = v.kind;
-        count(&mut all, kind);
-        if comes_out(s, v) {
-            count(&mut good, kind);
-        }
+        tally.add(v.kind, comes_out(s, v));
     }
-    print(rt, &all, &good)
+    tally.print(rt)
 }

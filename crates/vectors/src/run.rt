@@ -1,6 +1,7 @@
 // A vector run through its operation, and compared with what is expected.
 use crate::list::{Vector, bytes};
-use answer::{Answer, refuse_number};
+use crate::operation::Operation;
+use answer::Answer;
 use buffer::{read_size, read_value};
 use preview::Previewed;
 use tape::part::part_of;
@@ -60,34 +61,9 @@ fn same_counts(counts: &[u32; 255], expected: &[u8]) -> bool {
 // A registry's answer; the counts that it hands out are put in the place of those given.
 fn build(registry: &[u8], message: &mut [u8], counts: &mut [u32; 255]) -> Answer {
     let built = registry::build(registry, message);
-    let state = built.counts;
-    let fresh = state.of;
+    let fresh = built.counts.of; // the check wants an array in a variable before it is stored
     *counts = fresh;
     built.answer
-}
-
-// The operations that take one tape.
-fn on_a_tape(
-    s: &[u8],
-    v: Vector,
-    res: &mut [u8],
-    message: &mut [u8],
-    counts: &mut [u32; 255],
-) -> Answer {
-    let tape = bytes(s, v.first);
-    match v.kind / 64 {
-        2 => build(tape, message, counts),
-        6 => check_library::check_library(tape, res, message),
-        7 => check_library::check_at(tape, v.index, message),
-        10 => older::older(tape, res),
-        11 => profile::profile(tape),
-        12 => provider::provider(tape),
-        13 => provider::argument_to_term(tape, res),
-        14 => provider::term_to_argument(tape, res),
-        1 => check_body::check(tape, message),
-        // No list expects this number: an operation that is not known never comes out.
-        _ => refuse_number(0xFFFF_FFFF, message),
-    }
 }
 
 fn run_substitute(
@@ -137,19 +113,7 @@ fn run_judge(s: &[u8], v: Vector, res: &mut [u8], work: &mut [u8], message: &mut
     )
 }
 
-fn run_merge(s: &[u8], v: Vector, res: &mut [u8], message: &mut [u8]) -> Answer {
-    merge::merge(bytes(s, v.first), bytes(s, v.second), res, message)
-}
-
-// An answer that has no sizes of a result beside it.
-fn without_sizes(answer: Answer) -> Previewed {
-    Previewed {
-        answer,
-        entries: 0,
-        text: 0,
-    }
-}
-
+// What the vector's operation answers, if it has one. Of all but a preview, no sizes of a result stand beside the answer.
 fn run(
     s: &[u8],
     v: Vector,
@@ -157,21 +121,37 @@ fn run(
     work: &mut [u8],
     message: &mut [u8],
     counts: &mut [u32; 255],
-) -> Previewed {
-    match v.kind / 64 {
-        3 => without_sizes(run_substitute(s, v, res, work, message)),
-        4 => without_sizes(run_expand(s, v, res, work, message, counts)),
-        5 => run_preview(s, v, work, message),
-        8 => without_sizes(run_judge(s, v, res, work, message)),
-        9 => without_sizes(run_merge(s, v, res, message)),
-        _ => without_sizes(on_a_tape(s, v, res, message, counts)),
-    }
+) -> Option<Previewed> {
+    let tape = bytes(s, v.first);
+    let answer = match v.kind?.operation {
+        Operation::Check => check_body::check(tape, message),
+        Operation::Registry => build(tape, message, counts),
+        Operation::Substitute => run_substitute(s, v, res, work, message),
+        Operation::Expand => run_expand(s, v, res, work, message, counts),
+        Operation::Preview => return Some(run_preview(s, v, work, message)),
+        Operation::CheckLibrary => check_library::check_library(tape, res, message),
+        Operation::CheckAt => check_library::check_at(tape, v.index, message),
+        Operation::Judge => run_judge(s, v, res, work, message),
+        Operation::Merge => merge::merge(tape, bytes(s, v.second), res, message),
+        Operation::Older => older::older(tape, res),
+        Operation::Profile => profile::profile(tape),
+        Operation::Provider => provider::provider(tape),
+        Operation::ArgumentToTerm => provider::argument_to_term(tape, res),
+        Operation::TermToArgument => provider::term_to_argument(tape, res),
+    };
+    Some(Previewed {
+        answer,
+        entries: 0,
+        text: 0,
+    })
 }
 
-// The answer and the counts.
+// The answer and the counts. A vector that has no operation has no answer that a list could expect.
 fn answers(s: &[u8], v: Vector, res: &mut [u8], work: &mut [u8], message: &mut [u8]) -> bool {
     let mut counts = counts_of(bytes(s, v.given));
-    let r = run(s, v, res, work, message, &mut counts);
+    let Some(r) = run(s, v, res, work, message, &mut counts) else {
+        return false;
+    };
     tells(r, part_of(s, v.numbers, 56)) && same_counts(&counts, bytes(s, v.counted))
 }
 

@@ -1,54 +1,68 @@
-// Vectors counted by their kind, and all of them as kind 0.
+// Vectors counted by their kind.
+use crate::operation::{Kind, Operation};
 use std::io;
 
-fn one_more(counts: &mut [u64; 1024], kind: usize) {
-    if kind < 1024 && counts[kind] < 1000000 {
-        counts[kind] += 1;
+// How many vectors there are, and how many of them came out.
+#[derive(Clone, Copy, Debug, PartialEq, Eq)]
+struct Count {
+    all: u64,
+    good: u64,
+}
+
+impl Count {
+    const ZERO: Count = Count { all: 0, good: 0 };
+
+    fn add(&mut self, good: bool) {
+        self.all = self.all.saturating_add(1);
+        self.good = self.good.saturating_add(u64::from(good));
+    }
+
+    fn print(self, rt: &impl Print) -> io::Result<()> {
+        println!(rt; "{} of {}", self.good, self.all)
     }
 }
 
-pub fn count(counts: &mut [u64; 1024], kind: usize) {
-    one_more(counts, 0);
-    one_more(counts, kind);
+// The counts of all vectors, of those that are of no kind, and of each kind: a row for each operation, by its number, with a place for
+// each number that it can answer with.
+#[derive(Debug, PartialEq, Eq, Drop)]
+pub struct Tally {
+    total: Count,
+    unknown: Count,
+    kinds: [[Count; 64]; 15],
 }
 
-fn print_operation(rt: &impl Print, operation: usize) -> io::Result<()> {
-    match operation {
-        1 => print!(rt; "check "),
-        2 => print!(rt; "registry "),
-        3 => print!(rt; "substitute "),
-        4 => print!(rt; "expand "),
-        5 => print!(rt; "preview "),
-        6 => print!(rt; "check_library "),
-        7 => print!(rt; "check_at "),
-        8 => print!(rt; "judge "),
-        9 => print!(rt; "merge "),
-        10 => print!(rt; "older "),
-        11 => print!(rt; "profile "),
-        12 => print!(rt; "provider "),
-        13 => print!(rt; "argument_to_term "),
-        14 => print!(rt; "term_to_argument "),
-        _ => print!(rt; "unknown "),
-    }
-}
-
-fn print_counts(rt: &impl Print, all: u64, good: u64) -> io::Result<()> {
-    println!(rt; "{good} of {all}")
-}
-
-fn print_kind(rt: &impl Print, kind: usize, all: u64, good: u64) -> io::Result<()> {
-    print_operation(rt, kind / 64)?;
-    print!(rt; "{}: ", kind % 64)?;
-    print_counts(rt, all, good)
-}
-
-// A line for each kind that the list has, and the total.
-pub fn print(rt: &impl Print, all: &[u64; 1024], good: &[u64; 1024]) -> io::Result<()> {
-    for kind in 1..1024usize {
-        let n = all[kind];
-        if n != 0 {
-            print_kind(rt, kind, n, good[kind])?;
+impl Tally {
+    pub fn new() -> Tally {
+        Tally {
+            total: Count::ZERO,
+            unknown: Count::ZERO,
+            kinds: [[Count::ZERO; 64]; 15],
         }
     }
-    print_counts(rt, all[0], good[0])
+
+    pub fn add(&mut self, kind: Option<Kind>, good: bool) {
+        self.total.add(good);
+        match kind {
+            Some(k) => self.kinds[k.operation as usize][k.number].add(good),
+            None => self.unknown.add(good),
+        }
+    }
+
+    // A line for each kind that the list has, and the total.
+    pub fn print(&self, rt: &impl Print) -> io::Result<()> {
+        if self.unknown.all != 0 {
+            print!(rt; "unknown: ")?;
+            self.unknown.print(rt)?;
+        }
+        for operation in Operation::ALL {
+            let row = &self.kinds[operation as usize];
+            for (number, count) in row.iter().enumerate() {
+                if count.all != 0 {
+                    print!(rt; "{} {number}: ", operation.name())?;
+                    count.print(rt)?;
+                }
+            }
+        }
+        self.total.print(rt)
+    }
 }

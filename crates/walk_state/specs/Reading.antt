@@ -1,7 +1,7 @@
 -- The answer so far of a walk that only reads: how it goes on, and what stops it.
 -- Assumes nothing.
 use Rattle.messages.specs.declared.Refused.{Refused}
-use Rattle.std.specs.Prelude.{ℕ, zero, suc, List, Option, Result, Ok, Err}
+use Rattle.std.specs.Prelude.{◌≡◌, ℕ, zero, suc, List, Option, Result, Ok, Err}
 use Rattle.nodes.specs.Node.{on_value, on_place, expect_at}
 use Rattle.tape.specs.declared.layout.Layout.{Layout}
 use Rattle.tape.specs.declared.layout.Place.{Place}
@@ -49,3 +49,11 @@ passed_in = on_place malformed_in Ok
 -- past a field's name
 unfoldable pub past_name_in : List ℕ → Layout → Result Place Refused → Result Place Refused
 past_name_in s l = after λ p. on_value malformed_in (λ size next. Ok next) (expect_at s l p 40)
+
+-- ------------------------------------------------------------------ lists
+
+-- what calls find along the list at a place: for each f that they agree with, what f finds along it
+unfoldable pub Along : List ℕ → Layout → (Place → Result Place Refused → Type 0) → Place → Result Place Refused → Type 0
+Along s l P p r =
+    (f : Result Place Refused → Result Place Refused) → ((q : Place) (x : Result Place Refused) → P q x → x ≡ f (Ok q))
+    → r ≡ on_value malformed_in (λ count first. items_in f count (Ok first)) (expect_at s l p 41)

@@ -1,17 +1,33 @@
 // What the walks that only read have in common. Their answer is the place behind what was walked, or the first refusal.
 ghost use Rattle.std.specs.Prelude.{◌≡◌, Ok};
-ghost use Rattle.walk_state.specs.Reading.{past_name_in};
+ghost use Rattle.walk_state.specs.Reading.{past_name_in, Along};
 
 use grammar::code;
 use messages::Refused;
 use nodes::{Refusal, expect};
-use tape::layout::{Layout, Place};
+use tape::layout::{Place, Tape};
 
 // The way past a field's name.
 #[tactic(auto, unfolding(crate::specs::Reading::past_name_in, crate::specs::Reading::refused_in, nodes::specs::Node::span_of))]
-pub fn past_name(s: &[u8], l: Layout, p: Place) -> Result<Place, Refused>
-    ensures { result ≡ past_name_in s.now l (Ok p) }
+pub fn past_name(tape: &Tape, p: Place) -> Result<Place, Refused>
+    ensures { result ≡ past_name_in tape.now.bytes.now tape.now.layout (Ok p) }
 {
-    let (_, next) = expect(s, l, p, code::TEXT).ok_or(Refusal::MALFORMED)?;
+    let (_, next) = expect(tape, p, code::TEXT).ok_or(Refusal::MALFORMED)?;
     Ok(next)
+}
+
+// Walks the list at a place, item after item.
+#[tactic(auto, using(crate::proofs::Items::item_passed, crate::proofs::Items::item_refused, crate::proofs::Items::items_passed), unfolding(crate::specs::Reading::Along, crate::specs::Reading::refused_in, nodes::specs::Node::span_of, nodes::specs::Node::refusal_of))]
+pub fn along<F>(tape: &Tape, p: Place, item: F) -> Result<Place, Refused>
+where
+    F: Fn(Place) -> Result<Place, Refused>,
+    requires { F.IsAlwaysCallable item }
+    ensures { Along tape.now.bytes.now tape.now.layout (F.post item) p result }
+{
+    let (count, first) = expect(tape, p, code::LIST).ok_or(Refusal::MALFORMED)?;
+    let mut q = first;
+    for _ in 0..count {
+        q = item(q)?;
+    }
+    Ok(q)
 }

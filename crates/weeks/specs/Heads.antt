@@ -1,12 +1,12 @@
 -- The older tape of the entries at a layout: their codes and values with weeks turned into days, and the text as it stands.
 -- Assumes nothing.
-use Rattle.std.specs.Prelude.{ℕ, zero, suc, ◌+◌, Bool, ◌&&◌, T, List, [], ◌∷◌, ◌++◌, length}
+use Rattle.std.specs.Prelude.{ℕ, zero, suc, ◌+◌, Bool, ◌&&◌, List, [], ◌∷◌, ◌++◌, length}
 use Rattle.std.proofs.lemmas.List.Edits.{sets}
 use Rattle.format.specs.Entry.{Entry, entry, le, codes_of, values_of}
 use Rattle.format.specs.Older.{older_entries, fits_older}
 use Rattle.format.specs.Stands.{part}
 use Rattle.buffer.specs.Buffer.{zeroed}
-use Rattle.tape.specs.Layouts.{Held, code_at, value_at, holds}
+use Rattle.tape.specs.Layouts.{code_at, value_at, holds}
 use Rattle.tape.specs.Pick.{pick}
 use Rattle.tape.specs.declared.layout.Layout.{Layout}
 
@@ -21,10 +21,6 @@ heads_in s l = heads_at s l 0 l.entries
 -- the slice holds the layout, and no amount leaves the range
 abbrev pub fits_in : List ℕ → Layout → Bool
 fits_in s l = holds s l && fits_older (heads_in s l)
-
-pub record CanWrite (s : List ℕ) (l : Layout) : Type 0 where
-  pub held : Held s l
-  pub fits : T (fits_older (heads_in s l))
 
 -- the two sizes, the codes and the values
 unfoldable pub older_heads : List ℕ → Layout → List ℕ

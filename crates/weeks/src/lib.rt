@@ -7,40 +7,36 @@ ghost use Rattle.std.proofs.lemmas.List.Edits.{sets};
 ghost use Rattle.format.specs.Entry.{entry, codes_of, values_of};
 ghost use Rattle.format.specs.Older.{sevenfold, older_entry, older_entries, fits_older};
 ghost use Rattle.format.specs.Signed.{is_signed64, bits64};
-ghost use Rattle.weeks.specs.Heads.{CanWrite, heads_in, fits_in, older_heads, older_tape_in, filled, written_in};
-ghost use Rattle.tape.specs.Layouts.{Held};
+ghost use Rattle.weeks.specs.Heads.{heads_in, fits_in, older_heads, older_tape_in, filled, written_in};
 
 use buffer::{value_bytes, write, write_size};
 use grammar::code;
-use tape::layout::{Layout, code_at, holds, value_at};
+use tape::held::HeldTape;
+use tape::layout::Tape;
 use tape::part::part_of;
 
 // Writes the older tape of the entries at a layout, and zeros behind it; nothing where an amount leaves the range, or where the slice does
 // not hold the layout, which acceptance rules out. Says whether it was written.
-pub fn write_older(s: &[u8], l: Layout, res: &mut [u8]) -> bool
-    ensures { (result ≡ fits_in s.now l) × (res.new ≡ written_in s.now l res.old) }
+pub fn write_older(tape: &Tape, res: &mut [u8]) -> bool
+    ensures { (result ≡ fits_in tape.now.bytes.now tape.now.layout) × (res.new ≡ written_in tape.now.bytes.now tape.now.layout res.old) }
 {
-    let fits = fits_older(s, l);
+    let Some(held) = tape.held() else {
+        return false;
+    };
+    let fits = all_fit(&held);
     if fits {
-        write_tape(s, l, res);
+        write_tape(&held, res);
     }
     fits
 }
 
 // Whether seven times the amount of each interval in weeks has 64 bits.
-fn fits_older(s: &[u8], l: Layout) -> bool
-    ensures { result ≡ fits_in s.now l }
-{
-    holds(s, l) && all_fit(s, l)
-}
-
 #[tactic(auto, using(crate::proofs::Heads::fits_turn, crate::proofs::Heads::fits_end))]
-fn all_fit(s: &[u8], l: Layout) -> bool
-    requires { Held s.now l }
-    ensures { result ≡ fits_older (heads_in s.now l) }
+fn all_fit(held: &HeldTape) -> bool
+    ensures { result ≡ fits_older (heads_in held.now.tape.bytes.now held.now.tape.layout) }
 {
-    for i in 0..l.entries {
-        if !fits(code_at(s, l, i), value_at(s, l, i)) {
+    for i in 0..held.entries() {
+        if !fits(held.code_at(i), held.value_at(i)) {
             return false;
         }
     }
@@ -93,48 +89,51 @@ fn older_value(code: u8, value: u64) -> u64
 }
 
 #[tactic(auto, using(crate::proofs::Heads::codes_turn, crate::proofs::Heads::codes_end))]
-fn write_codes(s: &[u8], l: Layout, res: &mut [u8])
-    requires { Held s.now l }
-    ensures { res.new ≡ sets res.old 8 (codes_of (older_entries (heads_in s.now l))) }
+fn write_codes(held: &HeldTape, res: &mut [u8])
+    ensures { res.new ≡ sets res.old 8 (codes_of (older_entries (heads_in held.now.tape.bytes.now held.now.tape.layout))) }
 {
-    for i in 0..l.entries {
-        let code = older_code(code_at(s, l, i));
+    for i in 0..held.entries() {
+        let code = older_code(held.code_at(i));
         write(res, 8 + i, &[code]);
     }
 }
 
 #[tactic(auto, using(crate::proofs::Heads::values_turn, crate::proofs::Heads::values_end, crate::proofs::Heads::fits_turn))]
-fn write_values(s: &[u8], l: Layout, res: &mut [u8])
-    requires { CanWrite s.now l }
-    ensures { res.new ≡ sets res.old (8 + l.entries) (values_of (older_entries (heads_in s.now l))) }
+fn write_values(held: &HeldTape, res: &mut [u8])
+    requires { T (fits_older (heads_in held.now.tape.bytes.now held.now.tape.layout)) }
+    ensures { res.new ≡ sets res.old (8 + held.now.tape.layout.entries) (values_of (older_entries (heads_in held.now.tape.bytes.now held.now.tape.layout))) }
 {
-    let n = l.entries;
+    let n = held.entries();
     for i in 0..n {
-        let value = older_value(code_at(s, l, i), value_at(s, l, i));
+        let value = older_value(held.code_at(i), held.value_at(i));
         write(res, 8 + n + 8 * i, &value_bytes(value));
     }
 }
 
 // Writes all that is in front of the text.
 #[tactic(auto, using(crate::proofs::Heads::heads_written))]
-fn write_heads(s: &[u8], l: Layout, res: &mut [u8])
-    requires { CanWrite s.now l }
-    ensures { res.new ≡ sets res.old 0 (older_heads s.now l) }
+fn write_heads(held: &HeldTape, res: &mut [u8])
+    requires { T (fits_older (heads_in held.now.tape.bytes.now held.now.tape.layout)) }
+    ensures { res.new ≡ sets res.old 0 (older_heads held.now.tape.bytes.now held.now.tape.layout) }
 {
-    write_size(res, 0, l.entries);
-    write_size(res, 4, l.size);
-    write_codes(s, l, res);
-    write_values(s, l, res);
+    write_size(res, 0, held.entries());
+    write_size(res, 4, held.tape.layout.size);
+    write_codes(held, res);
+    write_values(held, res);
 }
 
 #[tactic(auto, using(crate::proofs::Heads::tape_written))]
-fn write_tape(s: &[u8], l: Layout, res: &mut [u8])
-    requires { CanWrite s.now l }
-    ensures { res.new ≡ filled res.old (older_tape_in s.now l) }
+fn write_tape(held: &HeldTape, res: &mut [u8])
+    requires { T (fits_older (heads_in held.now.tape.bytes.now held.now.tape.layout)) }
+    ensures { res.new ≡ filled res.old (older_tape_in held.now.tape.bytes.now held.now.tape.layout) }
 {
-    let text = part_of(s, l.text, l.size);
-    let behind = 8 + 9 * l.entries;
-    write_heads(s, l, res);
+    let text = part_of(
+        held.tape.bytes,
+        held.tape.layout.text,
+        held.tape.layout.size,
+    );
+    let behind = 8 + 9 * held.tape.layout.entries;
+    write_heads(held, res);
     write(res, behind, text);
     buffer::zero_from(res, behind + text.len());
 }

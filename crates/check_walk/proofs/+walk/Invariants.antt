@@ -3,6 +3,7 @@ use mathlib.Core.Path.{◌≡◌}
 use Prim.Native.Nat.{◌+◌, ◌-◌, ◌*◌}
 use Rattle.std.proofs.Common.{Ok}
 use Rattle.walk_state.specs.Reading.{items_in}
+use Rattle.check_parts.specs.Names.{declaration}
 use Rattle.check_walk.specs.Walk.{field_in, walkers}
 use Rattle.check_walk.proofs.+walk.Given as goal
 
@@ -23,7 +24,7 @@ decreases-since l = l.nesting * 2 + 1
 
 -- the walk over the items that are left is that over all
 abbrev pub invariant-fields-loop : goal.invariant-fields-loop
-invariant-fields-loop l = items_in (field_in l.s l.d (walkers l.s l.d l.nesting) l.span) (l.count - l.counter) (Ok l.q) ≡ items_in (field_in l.s l.d (walkers l.s l.d l.nesting) l.span) l.count (Ok l.initial.q)
+invariant-fields-loop l = items_in (field_in l.d.tape.bytes.now (declaration l.d) (walkers l.d.tape.bytes.now (declaration l.d) l.nesting) l.span) (l.count - l.counter) (Ok l.q) ≡ items_in (field_in l.d.tape.bytes.now (declaration l.d) (walkers l.d.tape.bytes.now (declaration l.d) l.nesting) l.span) l.count (Ok l.initial.q)
 
 abbrev pub invariant-check_temporal_term-loop : goal.invariant-check_temporal_term-loop
-invariant-check_temporal_term-loop l = items_in ((walkers l.s l.d l.n).term l.span) (l.count - l.counter) (Ok l.q) ≡ items_in ((walkers l.s l.d l.n).term l.span) l.count (Ok l.initial.q)
+invariant-check_temporal_term-loop l = items_in ((walkers l.d.tape.bytes.now (declaration l.d) l.n).term l.span) (l.count - l.counter) (Ok l.q) ≡ items_in ((walkers l.d.tape.bytes.now (declaration l.d) l.n).term l.span) l.count (Ok l.initial.q)

@@ -17,17 +17,17 @@ loop-at-preserved c = let l = c.loop-at in
     let code = c.code_at-code in
     let put = c.put_entry-put.ensures in
     let added = c.add_side-top.ensures in
-    let left : a.l.entries - l.at ≡ suc (a.l.entries - (l.at + 1)) = omega arith in
-    let step = ors_step a.s.now a.l l.at c.loop-at-test.true p.1.codes_held in
-    let w : weigh (eqb code.result 2) ≡ weigh (eqb (code_at a.s.now a.l l.at) 2) = ap (λ (k : ℕ). weigh (eqb k 2)) code.ensures in
-    let text : c.text_behind-text.result ≡ text_behind a.l.size l.text (width_at a.s.now a.l l.at) =
+    let left : a.held.now.tape.layout.entries - l.at ≡ suc (a.held.now.tape.layout.entries - (l.at + 1)) = omega arith in
+    let step = ors_step a.held.now.tape.bytes.now a.held.now.tape.layout l.at c.loop-at-test.true a.held.now.held.codes_held in
+    let w : weigh (eqb code.result 2) ≡ weigh (eqb (code_at a.held.now.tape.bytes.now a.held.now.tape.layout l.at) 2) = ap (λ (k : ℕ). weigh (eqb k 2)) code.ensures in
+    let text : c.text_behind-text.result ≡ text_behind a.held.now.tape.layout.size l.text (width_at a.held.now.tape.bytes.now a.held.now.tape.layout l.at) =
     c.text_behind-text.ensures.0 ∙ rw (c.text_width.ensures, code.ensures, c.value_at-value.ensures) refl in (
       c.text_behind-text.ensures.1,
       omega (arith, added.top_most, begun.top_most, c.add_side-top.auto.sides),
       omega (arith, step, w, l.invariant.2, begun.top_up, added.top_least),
       omega (arith, l.invariant.3, begun.put_most, put.put_most),
-      put_turn a.s.now a.l a.n (a.l.entries - (l.at + 1)) l.at l.text l.put l.sides l.top l.out
+      put_turn a.held.now.tape.bytes.now a.held.now.tape.layout a.n (a.held.now.tape.layout.entries - (l.at + 1)) l.at l.text l.put l.sides l.top l.out
           begun code.ensures c.value_at-value.ensures text put added
-          ∙ ap (λ (k : ℕ). left_to_put a.s.now a.l a.n k l.at l.text l.put (drop l.top l.sides) l.out) (sym left)
+          ∙ ap (λ (k : ℕ). left_to_put a.held.now.tape.bytes.now a.held.now.tape.layout a.n k l.at l.text l.put (drop l.top l.sides) l.out) (sym left)
           ∙ l.invariant.4,
     )

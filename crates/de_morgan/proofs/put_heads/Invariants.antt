@@ -8,5 +8,5 @@ use Rattle.de_morgan.proofs.Heads.{left_to_put}
 use Rattle.de_morgan.proofs.put_heads.Given as goal
 
 abbrev pub invariant-loop-at : goal.invariant-loop-at
-invariant-loop-at l = (l.text ≤ l.l.size) × (l.top ≤ length l.sides) × (2 * ors_from l.s l.l l.at ≤ l.top) × (l.put ≤ 4 * l.at)
-    × (left_to_put l.s l.l l.n (l.l.entries - l.at) l.at l.text l.put (drop l.top l.sides) l.out ≡ left_to_put l.s l.l l.n l.l.entries 0 0 0 [] l.initial.out)
+invariant-loop-at l = (l.text ≤ l.held.tape.layout.size) × (l.top ≤ length l.sides) × (2 * ors_from l.held.tape.bytes.now l.held.tape.layout l.at ≤ l.top) × (l.put ≤ 4 * l.at)
+    × (left_to_put l.held.tape.bytes.now l.held.tape.layout l.n (l.held.tape.layout.entries - l.at) l.at l.text l.put (drop l.top l.sides) l.out ≡ left_to_put l.held.tape.bytes.now l.held.tape.layout l.n l.held.tape.layout.entries 0 0 0 [] l.initial.out)

@@ -1,6 +1,11 @@
--- A turn of the loop over the arguments of a call.
-use Rattle.expand_walk.proofs.Walking.{item_walked}
+-- The cycle of the walkers: where no condition or term is read, which the check does not join by itself.
+use Rattle.std.proofs.Common.{rules}
+use Rattle.expand_calls.specs.Output.{reads_of}
+use Rattle.expand_walk.proofs.Walking.{unread_condition, unread_operand}
 use Rattle.expand_walk.proofs.+walk.Goals as goal
 
-pub expand_call_args-loop-preserved : goal.expand_call_args-loop-preserved
-expand_call_args-loop-preserved t c = item_walked _ _ _ c.loop.invariant c.loop-test.true c.in-Going.is c.arg-a.ensures
+pub expand_condition-returns-in_err-node : goal.expand_condition-returns-in_err-node
+expand_condition-returns-in_err-node t c = unread_condition (reads_of c.args.x.now) c.args.n c.if-n-eq0.false c.in_err-node.ensures (search rules)
+
+pub expand_operand-returns-in_err-node : goal.expand_operand-returns-in_err-node
+expand_operand-returns-in_err-node t c = unread_operand (reads_of c.args.x.now) c.args.n c.if-n-eq0.false c.in_err-node.ensures (search rules)

@@ -2,7 +2,8 @@
 -- that it calls at its own nesting, and below 8.
 use Prim.Native.Nat.{◌+◌, ◌-◌, ◌*◌}
 use mathlib.Core.Path.{◌≡◌}
-use Rattle.expand_calls.specs.Output.{reads, progress}
+use lib.ListN.{length}
+use Rattle.expand_calls.specs.Output.{reads_of, going_at}
 use Rattle.expand_walk.specs.Walkers.{items_in, arg_in, walkers}
 use Rattle.expand_walk.proofs.+walk.Given as goal
 
@@ -58,4 +59,7 @@ abbrev pub decreases-since : goal.decreases-since
 decreases-since l = l.n * 8 + 1
 
 abbrev pub invariant-expand_call_args-loop : goal.invariant-expand_call_args-loop
-invariant-expand_call_args-loop l = items_in (arg_in (reads l.reg l.places l.cond l.x) (walkers (reads l.reg l.places l.cond l.x) l.n)) (l.count - l.counter) (progress l.a l.work l.res) ≡ items_in (arg_in (reads l.reg l.places l.cond l.x) (walkers (reads l.reg l.places l.cond l.x) l.n)) l.count (progress l.initial.a l.initial.work l.initial.res)
+invariant-expand_call_args-loop l =
+    (items_in (arg_in (reads_of l.x) (walkers (reads_of l.x) l.n)) (l.count - l.counter) (going_at l.c l.res)
+    ≡ items_in (arg_in (reads_of l.x) (walkers (reads_of l.x) l.n)) l.count (going_at l.initial.c l.initial.res))
+    × (l.c.bytes.ghost_name ≡ l.initial.c.bytes.ghost_name) × (length l.c.bytes.now ≡ length l.initial.c.bytes.now)

@@ -7,5 +7,5 @@ use Rattle.judge_names.specs.Entries.{text_at, entries_from, entries_in}
 use Rattle.judge_names.proofs.has_name.Given as goal
 
 abbrev pub invariant-loop-at : goal.invariant-loop-at
-invariant-loop-at l = (contains (names_in (entries_from l.s l.l l.at (l.l.entries - l.at))) l.name ≡ contains (names_in (entries_in l.s l.l)) l.name)
-    × (l.text ≡ text_at l.s l.l l.at) × (l.text ≤ l.l.size)
+invariant-loop-at l = (contains (names_in (entries_from l.held.tape.bytes.now l.held.tape.layout l.at (l.held.tape.layout.entries - l.at))) l.name ≡ contains (names_in (entries_in l.held.tape.bytes.now l.held.tape.layout)) l.name)
+    × (l.text ≡ text_at l.held.tape.bytes.now l.held.tape.layout l.at) × (l.text ≤ l.held.tape.layout.size)

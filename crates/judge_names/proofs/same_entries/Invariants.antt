@@ -8,5 +8,5 @@ use Rattle.judge_names.proofs.Steps.{Left}
 use Rattle.judge_names.proofs.same_entries.Given as goal
 
 abbrev pub invariant-loop-at : goal.invariant-loop-at
-invariant-loop-at l = (Left (protected_in l.reg l.d l.cond l.c) l.s l.l l.t l.m l.at l.l.entries ≡ same_but_names (protected_in l.reg l.d l.cond l.c) [] (entries_in l.s l.l) (entries_in l.t l.m))
-    × (l.a ≡ text_at l.s l.l l.at) × (l.b ≡ text_at l.t l.m l.at) × (l.a ≤ l.l.size) × (l.b ≤ l.m.size)
+invariant-loop-at l = (Left (protected_in l.reg.tape.bytes.now l.reg.tape.layout l.cond.tape.bytes.now l.cond.tape.layout) l.left.tape.bytes.now l.left.tape.layout l.right.tape.bytes.now l.right.tape.layout l.at l.left.tape.layout.entries ≡ same_but_names (protected_in l.reg.tape.bytes.now l.reg.tape.layout l.cond.tape.bytes.now l.cond.tape.layout) [] (entries_in l.left.tape.bytes.now l.left.tape.layout) (entries_in l.right.tape.bytes.now l.right.tape.layout))
+    × (l.a ≡ text_at l.left.tape.bytes.now l.left.tape.layout l.at) × (l.b ≡ text_at l.right.tape.bytes.now l.right.tape.layout l.at) × (l.a ≤ l.left.tape.layout.size) × (l.b ≤ l.right.tape.layout.size)

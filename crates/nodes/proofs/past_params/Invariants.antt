@@ -5,4 +5,4 @@ use Rattle.nodes.specs.Node.{past_items, past_param_at}
 use Rattle.nodes.proofs.past_params.Given as goal
 
 abbrev pub invariant-loop : goal.invariant-loop
-invariant-loop l = past_items (past_param_at l.s l.l) (l.count - l.counter) l.q ≡ past_items (past_param_at l.s l.l) l.count l.fn.p
+invariant-loop l = past_items (past_param_at l.tape.bytes.now l.tape.layout) (l.count - l.counter) l.q ≡ past_items (past_param_at l.tape.bytes.now l.tape.layout) l.count l.fn.p

@@ -5,4 +5,4 @@ use Rattle.nodes.specs.Node.{past_items, past_entry_at}
 use Rattle.nodes.proofs.past_texts.Given as goal
 
 abbrev pub invariant-loop : goal.invariant-loop
-invariant-loop l = past_items (past_entry_at l.s l.l 40) (l.count - l.counter) l.q ≡ past_items (past_entry_at l.s l.l 40) l.count l.fn.p
+invariant-loop l = past_items (past_entry_at l.tape.bytes.now l.tape.layout 40) (l.count - l.counter) l.q ≡ past_items (past_entry_at l.tape.bytes.now l.tape.layout 40) l.count l.fn.p

@@ -6,9 +6,9 @@ use Rattle.profile.proofs.profile_entries.Goals as goal
 
 pub loop-at-init : goal.loop-at-init
 loop-at-init c =
-    let long : length c.args.spans.now ≡ 34 = rw c.requires.1 in
-    let all : c.args.l.entries - 0 ≡ c.args.l.entries = omega arith in
-    (omega arith, omega arith, omega arith, rw (started c.args.spans.now c.requires.1, all))
+    let long : length c.args.spans.now ≡ 34 = rw c.requires in
+    let all : c.args.held.now.tape.layout.entries - 0 ≡ c.args.held.now.tape.layout.entries = omega arith in
+    (omega arith, omega arith, omega arith, rw (started c.args.spans.now c.requires, all))
 
 pub pass_entry-top-requires : goal.pass_entry-top-requires
 pass_entry-top-requires c =

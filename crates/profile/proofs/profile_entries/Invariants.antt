@@ -9,4 +9,4 @@ use Rattle.profile.proofs.profile_entries.Given as goal
 
 abbrev pub invariant-loop-at : goal.invariant-loop-at
 invariant-loop-at l = (l.nodes ≤ 16) × (l.top ≤ length l.spans) × (34 ≤ l.top + 2 * l.nodes + 2)
-    × (profile_heads l.nodes (spans_in (drop l.top l.spans)) (heads_at l.s l.l l.at (l.l.entries - l.at)) ≡ profile_all l.s l.l)
+    × (profile_heads l.nodes (spans_in (drop l.top l.spans)) (heads_at l.held.tape.bytes.now l.held.tape.layout l.at (l.held.tape.layout.entries - l.at)) ≡ profile_all l.held.tape.bytes.now l.held.tape.layout)

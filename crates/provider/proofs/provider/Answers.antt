@@ -7,9 +7,9 @@ use Rattle.provider.proofs.provider.Goals as goal
 
 pub returns-in-Ok : goal.returns-in-Ok
 returns-in-Ok c =
-    provider_accepted _ (bytes_all _ (λ i. (c.type_inv.tape i).fits)) (sym c.accept_provider.ensures ∙ c.in-Ok.is) c.result_written.ensures
+    provider_accepted _ (bytes_all _ (λ i. (c.type_inv.bytes i).fits)) (sym c.accept_provider.ensures ∙ c.in-Ok.is) c.result_written.ensures
 
 pub returns-in-Err : goal.returns-in-Err
 returns-in-Err c =
-    provider_refused _ (bytes_all _ (λ i. (c.type_inv.tape i).fits)) (sym c.accept_provider.ensures ∙ c.in-Err.is)
+    provider_refused _ (bytes_all _ (λ i. (c.type_inv.bytes i).fits)) (sym c.accept_provider.ensures ∙ c.in-Err.is)
     (no_buffers_lem _ (rw c.number.ensures at c.refuse_result.ensures))

@@ -4,9 +4,9 @@ use mathlib.Core.Path.{◌≡◌}
 use mathlib.Core.List.{◌++◌}
 use lib.ListN.{length, take}
 use Rattle.tape.proofs.Runs.{place}
-use Rattle.registry.specs.Places.{origin, rows_in, rows_from}
+use Rattle.registry.specs.Places.{origin, rows_from}
 use Rattle.registry.proofs.index_from.Given as goal
 
 abbrev pub invariant-loop-at : goal.invariant-loop-at
-invariant-loop-at l = (rows_in l.places l.n ++ take (l.room - l.n) (rows_from l.s l.l (l.l.entries - l.at) (place l.at l.text)) ≡ take l.room (rows_from l.s l.l l.l.entries origin))
-    × (l.n ≤ l.room) × (length l.places ≡ length l.initial.places) × (l.text ≤ l.l.size)
+invariant-loop-at l = (take l.n l.rows ++ take (length l.initial.rows - l.n) (rows_from l.held.tape.bytes.now l.held.tape.layout (l.held.tape.layout.entries - l.at) (place l.at l.text)) ≡ take (length l.initial.rows) (rows_from l.held.tape.bytes.now l.held.tape.layout l.held.tape.layout.entries origin))
+    × (l.n ≤ length l.initial.rows) × (l.text ≤ l.held.tape.layout.size)

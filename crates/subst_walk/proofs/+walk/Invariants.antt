@@ -3,8 +3,8 @@
 use Prim.Native.Nat.{◌+◌, ◌*◌, ◌-◌}
 use mathlib.Core.Path.{◌≡◌}
 use lib.ListN.{length}
-use Rattle.walk_state.specs.Writing.{progress}
-use Rattle.subst_places.specs.Parameters.{tapes, items_in}
+use Rattle.walk_state.specs.Writing.{going_at}
+use Rattle.subst_places.specs.Parameters.{tapes_of, items_in}
 use Rattle.subst_walk.specs.Walkers.{field_in, walkers}
 use Rattle.subst_walk.proofs.+walk.Given as goal
 
@@ -64,12 +64,12 @@ decreases-formerly l = l.n * 8 + 1
 
 abbrev pub invariant-fields-loop : goal.invariant-fields-loop
 invariant-fields-loop l =
-    (items_in (field_in (tapes l.def l.call l.args l.m) (walkers (tapes l.def l.call l.args l.m) l.n) l.span) (l.count - l.counter) (progress l.a l.buf)
-    ≡ items_in (field_in (tapes l.def l.call l.args l.m) (walkers (tapes l.def l.call l.args l.m) l.n) l.span) l.count (progress l.initial.a l.initial.buf))
-    × (length l.buf ≡ length l.initial.buf)
+    (items_in (field_in (tapes_of l.s) (walkers (tapes_of l.s) l.n) l.span) (l.count - l.counter) (going_at l.c)
+    ≡ items_in (field_in (tapes_of l.s) (walkers (tapes_of l.s) l.n) l.span) l.count (going_at l.initial.c))
+    × (l.c.bytes.ghost_name ≡ l.initial.c.bytes.ghost_name) × (length l.c.bytes.now ≡ length l.initial.c.bytes.now)
 
 abbrev pub invariant-terms-loop : goal.invariant-terms-loop
 invariant-terms-loop l =
-    (items_in ((walkers (tapes l.def l.call l.args l.m) l.n).term l.span) (l.count - l.counter) (progress l.a l.buf)
-    ≡ items_in ((walkers (tapes l.def l.call l.args l.m) l.n).term l.span) l.count (progress l.initial.a l.initial.buf))
-    × (length l.buf ≡ length l.initial.buf)
+    (items_in ((walkers (tapes_of l.s) l.n).term l.span) (l.count - l.counter) (going_at l.c)
+    ≡ items_in ((walkers (tapes_of l.s) l.n).term l.span) l.count (going_at l.initial.c))
+    × (l.c.bytes.ghost_name ≡ l.initial.c.bytes.ghost_name) × (length l.c.bytes.now ≡ length l.initial.c.bytes.now)

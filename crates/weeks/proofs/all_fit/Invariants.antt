@@ -5,4 +5,4 @@ use Rattle.weeks.specs.Heads.{heads_at}
 use Rattle.weeks.proofs.all_fit.Given as goal
 
 abbrev pub invariant-loop-i : goal.invariant-loop-i
-invariant-loop-i l = fits_older (heads_at l.s l.l l.i (l.l.entries - l.i)) ≡ fits_older (heads_at l.s l.l 0 l.l.entries)
+invariant-loop-i l = fits_older (heads_at l.held.tape.bytes.now l.held.tape.layout l.i (l.held.tape.layout.entries - l.i)) ≡ fits_older (heads_at l.held.tape.bytes.now l.held.tape.layout 0 l.held.tape.layout.entries)

@@ -8,4 +8,4 @@ use Rattle.weeks.proofs.write_codes.Given as goal
 
 abbrev pub invariant-loop-i : goal.invariant-loop-i
 invariant-loop-i l =
-    sets l.res (8 + l.i) (codes_of (older_entries (heads_at l.s l.l l.i (l.l.entries - l.i)))) ≡ sets l.initial.res 8 (codes_of (older_entries (heads_at l.s l.l 0 l.l.entries)))
+    sets l.res (8 + l.i) (codes_of (older_entries (heads_at l.held.tape.bytes.now l.held.tape.layout l.i (l.held.tape.layout.entries - l.i)))) ≡ sets l.initial.res 8 (codes_of (older_entries (heads_at l.held.tape.bytes.now l.held.tape.layout 0 l.held.tape.layout.entries)))

@@ -7,6 +7,6 @@ use Rattle.weeks.specs.Heads.{heads_at}
 use Rattle.weeks.proofs.write_values.Given as goal
 
 abbrev pub invariant-loop-i : goal.invariant-loop-i
-invariant-loop-i l = T (fits_older (heads_at l.s l.l l.i (l.n - l.i)))
-    × (sets l.res (8 + l.n + 8 * l.i) (values_of (older_entries (heads_at l.s l.l l.i (l.n - l.i))))
-    ≡ sets l.initial.res (8 + l.n) (values_of (older_entries (heads_at l.s l.l 0 l.n))))
+invariant-loop-i l = T (fits_older (heads_at l.held.tape.bytes.now l.held.tape.layout l.i (l.n - l.i)))
+    × (sets l.res (8 + l.n + 8 * l.i) (values_of (older_entries (heads_at l.held.tape.bytes.now l.held.tape.layout l.i (l.n - l.i))))
+    ≡ sets l.initial.res (8 + l.n) (values_of (older_entries (heads_at l.held.tape.bytes.now l.held.tape.layout 0 l.n))))

@@ -1,11 +1,11 @@
--- `message_calls::call::argument_count` meets its contract.
+-- `message_calls::call::argument_count` meets its contract. Words are long lists, at whose depth `grind` stops, so the pieces are joined here.
 use mathlib.Core.Path.{refl}
 use Rattle.definition.specs.Messages.{open_messages}
 use Rattle.definition.specs.Text.{open_text}
 use Rattle.message_parts.specs.Write.{open_pieces}
-use Rattle.message_parts.proofs.Writing.{piece, ◌then◌, whole}
+use Rattle.message_parts.proofs.Writing.{put, ◌and◌, wrote}
 use Rattle.message_calls.proofs.call.argument_count.Goals as goal
 
 pub returns : goal.returns
 unfolding open_text open_messages open_pieces
-returns c = whole (c.around-a.ensures then piece c.write_number-b.ensures then piece c.write_at-c.ensures then piece c.write_number.ensures) refl
+returns c = wrote (c.around.ensures and c.numbered.ensures and put c.put_number.ensures) refl

@@ -1,9 +1,8 @@
 -- The loop of `subst_state::maps::find_arguments`: what is left to be written makes the whole table of what stands there. Assumes nothing.
-use Prim.Native.Nat.{◌-◌, ◌≤◌}
+use Prim.Native.Nat.{◌-◌}
 use mathlib.Core.Path.{◌≡◌}
-use lib.ListN.{length}
 use Rattle.subst_state.specs.Arguments.{table_from}
 use Rattle.subst_state.proofs.maps.find_arguments.Given as goal
 
 abbrev pub invariant-loop : goal.invariant-loop
-invariant-loop l = (table_from l.s l.l (l.count - l.counter) l.p l.k l.args ≡ table_from l.s l.l l.count l.fn.first 0 l.fn.args) × (l.k ≤ length l.args)
+invariant-loop l = table_from l.tape.bytes.now l.tape.layout (l.count - l.counter) l.p l.k l.args ≡ table_from l.tape.bytes.now l.tape.layout l.count l.fn.first 0 l.fn.args

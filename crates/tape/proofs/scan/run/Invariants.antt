@@ -9,9 +9,9 @@ use Rattle.grammar.specs.Stack.{stack_of}
 use Rattle.tape.proofs.scan.run.Given as goal
 
 abbrev pub invariant-loop-top : goal.invariant-loop-top
-invariant-loop-top l = (length l.stack ≡ l.cells) × (l.top ≤ l.cells) × (l.cells + l.initial.at ≤ l.top + l.at + 1) × (l.initial.at ≤ l.at) × (l.at ≤ l.l.entries) × (l.text ≤ l.l.size)
-    × (scan_of l.grammar l.longest l.l.size (entries_at l.grammar l.s l.l l.at l.text (l.l.entries - l.at)) (stack_of l.stack l.top) l.at l.text l.over
-    ≡ scan_from l.grammar l.s l.l (record { at = l.initial.at; text = l.initial.text }) l.sort l.longest)
+invariant-loop-top l = (length l.stack ≡ l.cells) × (l.top ≤ l.cells) × (l.cells + l.initial.at ≤ l.top + l.at + 1) × (l.initial.at ≤ l.at) × (l.at ≤ l.tape.layout.entries) × (l.text ≤ l.tape.layout.size)
+    × (scan_of l.grammar l.longest l.tape.layout.size (entries_at l.grammar l.tape.bytes.now l.tape.layout l.at l.text (l.tape.layout.entries - l.at)) (stack_of l.stack l.top) l.at l.text l.over
+    ≡ scan_from l.grammar l.tape.bytes.now l.tape.layout (record { at = l.initial.at; text = l.initial.text }) l.sort l.longest)
 
 abbrev pub decreases-loop-top : goal.decreases-loop-top
-decreases-loop-top l = l.l.entries - l.at
+decreases-loop-top l = l.tape.layout.entries - l.at

@@ -1,0 +1,92 @@
+// What a vector is run through, and how it is counted.
+ghost use Rattle.std.specs.Prelude.{◌<◌};
+
+// The operations, each with its number in a list.
+#[derive(Clone, Copy, Debug, PartialEq, Eq)]
+pub enum Operation {
+    Check = 1,
+    Registry = 2,
+    Substitute = 3,
+    Expand = 4,
+    Preview = 5,
+    CheckLibrary = 6,
+    CheckAt = 7,
+    Judge = 8,
+    Merge = 9,
+    Older = 10,
+    Profile = 11,
+    Provider = 12,
+    ArgumentToTerm = 13,
+    TermToArgument = 14,
+}
+
+impl Operation {
+    // All of them, in the order of their numbers.
+    pub const ALL: [Operation; 14] = [
+        Operation::Check,
+        Operation::Registry,
+        Operation::Substitute,
+        Operation::Expand,
+        Operation::Preview,
+        Operation::CheckLibrary,
+        Operation::CheckAt,
+        Operation::Judge,
+        Operation::Merge,
+        Operation::Older,
+        Operation::Profile,
+        Operation::Provider,
+        Operation::ArgumentToTerm,
+        Operation::TermToArgument,
+    ];
+
+    // The operation of a number, if there is one.
+    pub fn from_number(number: u32) -> Option<Operation> {
+        Operation::ALL
+            .iter()
+            .copied()
+            .find(|operation| *operation as u32 == number)
+    }
+
+    // As it is printed.
+    pub fn name(self) -> &'static str {
+        match self {
+            Operation::Check => "check",
+            Operation::Registry => "registry",
+            Operation::Substitute => "substitute",
+            Operation::Expand => "expand",
+            Operation::Preview => "preview",
+            Operation::CheckLibrary => "check_library",
+            Operation::CheckAt => "check_at",
+            Operation::Judge => "judge",
+            Operation::Merge => "merge",
+            Operation::Older => "older",
+            Operation::Profile => "profile",
+            Operation::Provider => "provider",
+            Operation::ArgumentToTerm => "argument_to_term",
+            Operation::TermToArgument => "term_to_argument",
+        }
+    }
+}
+
+// An operation and the number that it is to answer with.
+#[derive(Clone, Copy, Debug, PartialEq, Eq)]
+pub struct Kind {
+    pub operation: Operation,
+    pub number: usize,
+    ghost in_range: { number < 64 },
+}
+
+impl Kind {
+    // None where there is no such operation, or no operation has such a number.
+    pub fn new(operation: u32, number: u64) -> Option<Kind> {
+        let operation = Operation::from_number(operation)?;
+        if number < 64 {
+            Some(Kind {
+                operation,
+                number: number as usize,
+            })
+        } else {
+            None
+        }
+    }
+}
