@@ -8,7 +8,7 @@ use std::io::{BufReader, Read, Write};
 use std::process::{Child, ChildStdin, ChildStdout, Command, Stdio};
 use std::sync::mpsc::{Receiver, RecvTimeoutError, Sender, channel};
 use std::sync::{Arc, Mutex};
-use std::thread;
+use std::thread::{self, JoinHandle};
 use std::time::Duration;
 
 /// Something else than an answer.
@@ -58,6 +58,8 @@ struct Running {
     responses: Receiver<Incoming>,
     /// The end of what it wrote to standard error.
     complaints: Arc<Mutex<Vec<u8>>>,
+    /// Reads it, as long as something is written there.
+    complaining: JoinHandle<()>,
 }
 
 impl Process {
@@ -144,8 +146,8 @@ impl Running {
         let (stderr, kept) = (child.stderr.take().expect("piped"), complaints.clone());
         thread::spawn(move || write_all(stdin, &to_write));
         thread::spawn(move || read_all(stdout, &received));
-        thread::spawn(move || keep_end(stderr, &kept));
-        Ok(Running { child, requests, responses, complaints })
+        let complaining = thread::spawn(move || keep_end(stderr, &kept));
+        Ok(Running { child, requests, responses, complaints, complaining })
     }
 
     fn end(&mut self) {
@@ -156,20 +158,28 @@ impl Running {
     /// For a stream that ended: how the program ended, and what it complained of last.
     fn with_status(&mut self, failure: Failure) -> Failure {
         let Failure::Dies(how) = failure else { return failure };
-        // It has closed its output; it is given a moment to end.
-        let status = (0..50).find_map(|_| {
-            let status = self.child.try_wait().ok().flatten();
-            if status.is_none() {
-                thread::sleep(Duration::from_millis(10));
-            }
-            status
-        });
+        // It has closed its output; it is given a moment to end, and then what it wrote to standard error one to be read.
+        let status = in_a_moment(|| self.child.try_wait().ok().flatten());
+        if status.is_some() {
+            in_a_moment(|| self.complaining.is_finished().then_some(()));
+        }
         let status = status.map_or("its output is closed".to_string(), |status| status.to_string());
         let complaints = self.complaints.lock().map(|bytes| String::from_utf8_lossy(&bytes).trim().to_string());
         let last = complaints.ok().and_then(|text| text.lines().last().map(str::to_string)).unwrap_or_default();
         let parts = [status, how, last].into_iter().filter(|part| !part.is_empty());
         Failure::Dies(parts.collect::<Vec<_>>().join("; "))
     }
+}
+
+/// What comes of asking again and again for half a second, if something does.
+fn in_a_moment<T>(mut ask: impl FnMut() -> Option<T>) -> Option<T> {
+    (0..50).find_map(|_| {
+        let answer = ask();
+        if answer.is_none() {
+            thread::sleep(Duration::from_millis(10));
+        }
+        answer
+    })
 }
 
 /// Writes requests until there are no more, or nobody reads them. Those that wait go out together.
