@@ -100,7 +100,7 @@ fn answer_list(tape: &Tape, res: &mut [u8], message: &mut [u8]) -> Answer
     ensures { AnswersList tape.now.bytes.now tape.now.layout res.old (length message.old) (answer_with result res.new [] message.new) }
 {
     match list_registry(tape, res) {
-        Ok(()) => number_alone(numbers::DONE, 0, &mut [], &mut [], message),
+        Ok(()) => number_alone(numbers::OK, 0, &mut [], &mut [], message),
         Err(r) => refuse(tape, tape, r, 0, res, &mut [], message),
     }
 }

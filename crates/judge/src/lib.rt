@@ -85,5 +85,5 @@ pub fn judge<'a>(
         return answer;
     }
     // what the expansion has charged stays
-    number_alone(numbers::OTHER_RESULT, answer.charged, res, work, message)
+    number_alone(numbers::NOT_EQUAL, answer.charged, res, work, message)
 }

@@ -46,7 +46,7 @@ fn join_one(first: &Index, t: &Tape, c: &mut Cursor) -> Result<(), Refused>
         Compared::Known(next) => c.place = next,
         Compared::Differs(span) => return Err(refuse(
             span,
-            Reason::WithoutMessage(numbers::OTHER_DEFINITION),
+            Reason::WithoutMessage(numbers::DEFINITIONS_DIFFER),
         )),
     }
     Ok(())

@@ -49,7 +49,7 @@ fn answer_merging(
     match m {
         Merging::Written(out) => {
             finish(area, out, res);
-            number_alone(numbers::DONE, 0, &mut [], &mut [], message)
+            number_alone(numbers::OK, 0, &mut [], &mut [], message)
         }
         Merging::First(f) => refuse(first, first, f, 0, res, &mut [], message),
         Merging::Second(f) => refuse(second, second, f, 0, res, &mut [], message),

@@ -47,7 +47,7 @@ fn older_in(tape: &Tape, res: &mut [u8]) -> Answer
     if write_older(tape, res) {
         result_written()
     } else {
-        refuse_result(numbers::AMOUNT_TOO_LONG, res)
+        refuse_result(numbers::OUT_OF_RANGE, res)
     }
 }
 

@@ -69,8 +69,8 @@ fn refuse(rule: Rule, spans: &[u64], top: usize) -> Answer
 {
     match rule {
         Rule::NoAggregate => end(numbers::AGGREGATE, 0),
-        Rule::SixteenNodes => end(numbers::SEVENTEENTH_NODE, 0),
-        Rule::WithinDay => end(numbers::PAST_A_DAY, nearest(spans, top)),
+        Rule::SixteenNodes => end(numbers::TOO_MANY_NODES, 0),
+        Rule::WithinDay => end(numbers::TOO_LONG_INTERVAL, nearest(spans, top)),
     }
 }
 
@@ -90,7 +90,7 @@ fn profile_entries(held: &HeldTape, spans: &mut [u64]) -> Answer
         top = pass_entry(spans, top, e);
         nodes = counted(nodes, e.code);
     }
-    end(numbers::DONE, 0)
+    end(numbers::OK, 0)
 }
 
 // What stands at a layout. Where the slice does not hold it, which acceptance rules out, there is nothing to refuse.
@@ -99,7 +99,7 @@ fn profile_in(tape: &Tape) -> Answer
     ensures { answer_with result [] [] [] ≡ profiled (profile_in tape.now.bytes.now tape.now.layout) }
 {
     let Some(held) = tape.held() else {
-        return end(numbers::DONE, 0);
+        return end(numbers::OK, 0);
     };
     let mut spans = [0u64; 34];
     profile_entries(&held, &mut spans)

@@ -139,7 +139,7 @@ pub fn argument_to_term(bytes: &[u8], res: &mut [u8]) -> Answer
     match accept_provider(bytes, ARGUMENT) {
         Ok(layout) => turn(
             Way::ToTerm,
-            numbers::FIELD_IN_AN_ARGUMENT,
+            numbers::HAS_A_FIELD,
             &Tape { bytes, layout },
             res,
         ),
@@ -159,7 +159,7 @@ pub fn term_to_argument(bytes: &[u8], res: &mut [u8]) -> Answer
     match accept(bytes, TERM) {
         Ok(layout) => turn(
             Way::ToArgument,
-            numbers::NO_ARGUMENT,
+            numbers::NOT_AN_ARGUMENT,
             &Tape { bytes, layout },
             res,
         ),

@@ -83,16 +83,20 @@ fn check_sheet(sheet: &[u8]) -> u32
     ensures { result ≡ sheet_number sheet.now }
 {
     if 65536 < sheet.len() {
-        return 57;
+        return numbers::SHEET_TOO_LARGE;
     }
     if sheet.len() < 4 {
-        return 2;
+        return numbers::MALFORMED;
     }
     let count = read_size(sheet, 0);
     if 32 < count {
-        return 57;
+        return numbers::SHEET_TOO_LARGE;
     }
-    if filled_by(&sheet[4..], count) { 0 } else { 2 }
+    if filled_by(&sheet[4..], count) {
+        numbers::OK
+    } else {
+        numbers::MALFORMED
+    }
 }
 
 // The registry's refusals, then the sheet's.
@@ -208,7 +212,11 @@ fn answer_done(res: &mut [u8], work: &mut [u8], message: &mut [u8]) -> Answer
     ensures { answer_with result res.new work.new message.new ≡ tree_answer (buffers (length res.old) (length work.old) (length message.old)) (number_alone 0) }
 {
     let long = long_buffers(res.len(), work.len(), message.len());
-    let number = if long { 0 } else { 1 };
+    let number = if long {
+        numbers::OK
+    } else {
+        numbers::SHORT_BUFFER
+    };
     number_alone(number, 0, res, work, message)
 }
 

@@ -60,7 +60,7 @@ fn condition(
         }
         ConditionNode::Call(span) => Err(refuse(
             span,
-            Reason::WithoutMessage(numbers::CALL_IN_A_BODY),
+            Reason::WithoutMessage(numbers::CALL_MET_IN_BODY),
         )),
     }
 }
@@ -259,7 +259,7 @@ fn agg(
             subst_binders(s, c, span)?;
             subst_temporal_condition(n, s, c)
         }
-        AggNode::Call(span) => Err(refuse(span, Reason::WithoutMessage(numbers::CALL_IN_A_BODY))),
+        AggNode::Call(span) => Err(refuse(span, Reason::WithoutMessage(numbers::CALL_MET_IN_BODY))),
     }
 }
 
