@@ -10,11 +10,11 @@
  * negations. The largest figures hold of the tape so rewritten too, which has three entries more for each 2 and nests two levels
  * deeper at each, and so do sizes, charges and messages. No result holds a 2.
  *
- * Stack: the walks recurse as deep as tapes nest. Measured at the deepest inputs on x86-64 (`bench stack`): neukolja_check 63,863
- * bytes, neukolja_registry 17,655, neukolja_check_library 70,311, neukolja_check_at 70,215, neukolja_merge 45,327,
- * neukolja_substitute 93,447, neukolja_expand 167,991, neukolja_preview 180,311, neukolja_judge 205,511,
- * neukolja_older 22,599, neukolja_profile 22,583, neukolja_provider 10,023, neukolja_argument_to_term 10,071,
- * neukolja_term_to_argument 10,167, neukolja_sheet_open 17,767, neukolja_sheet_next 167,975. A linker script or a thread must
+ * Stack: the walks recurse as deep as tapes nest. Measured at the deepest inputs on x86-64 (`bench stack`): neukolja_check 63,879
+ * bytes, neukolja_registry 16,687, neukolja_check_library 70,295, neukolja_check_at 70,231, neukolja_merge 45,263,
+ * neukolja_substitute 94,631, neukolja_expand 170,295, neukolja_preview 182,615, neukolja_judge 207,879,
+ * neukolja_older 21,631, neukolja_profile 21,631, neukolja_provider 9,135, neukolja_argument_to_term 9,215,
+ * neukolja_term_to_argument 9,215, neukolja_sheet_open 16,799, neukolja_sheet_next 170,279. A linker script or a thread must
  * provide it, with what the caller itself needs and some room on top: nothing checks it while a function runs.
  *
  * A function keeps nothing between calls, so several threads may call it at once, each with buffers of its own. What a call

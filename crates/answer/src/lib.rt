@@ -1,10 +1,11 @@
 // What an operation returns, and how it ends: the result and zeros behind it, or zeros; zeros in the work buffer; the message and zeros
-// behind it. An operation has only the buffers it needs, and one that it has not is empty here.
+// behind it. An operation has only the buffers it needs, and one that it has not is empty here. `message` is the buffer that C lends:
+// the answer says how long the message in it is, and nothing stands beside it.
 #![tactic(auto)]
 
 ghost use Rattle.std.specs.Prelude.{[], ◌≡◌, length};
 ghost use Rattle.definition.specs.Outcome.{refusal, Outcome};
-ghost use Rattle.definition.specs.Answers.{long_buffers, message_alone, number_alone};
+ghost use Rattle.definition.specs.Answers.{long_buffers, message_alone, number_alone, without_work};
 ghost use Rattle.definition.specs.Older.{result_alone};
 ghost use Rattle.walk_state.specs.Writing.{came_to};
 ghost use Rattle.answer.specs.Matches.{answer_with, buffers, ended, AnswersRefusal, AnswersVerdict, AnswersOutcome};
@@ -34,7 +35,8 @@ pub fn long_buffers(res: usize, work: usize, message: usize) -> bool
     12296 <= res && 65536 <= work && 2048 <= message
 }
 
-// A number with the span 0..0 and no message, zeros in every buffer: success, and what comes before a walk.
+// A number with the span 0..0 and no message, zeros in every buffer: success, and what comes before a walk. The 0 that functions here
+// give it is that success, which they are about.
 #[tactic(auto, unfolding(crate::specs::Matches::ended, definition::specs::Answers::open_answers, definition::specs::Outcome::open_outcome))]
 pub fn number_alone(
     number: u32,
@@ -89,7 +91,15 @@ pub fn refuse_number(number: u32, message: &mut [u8]) -> Answer
     number_alone(number, 0, &mut [], &mut [], message)
 }
 
-// The same of one that has a result buffer alone.
+// The same of one that has a result and a message buffer.
+#[tactic(auto, using(crate::proofs::Ends::without_work_lem), unfolding(definition::specs::Answers::number_alone, crate::specs::Matches::ended))]
+pub fn refuse_without_work(number: u32, res: &mut [u8], message: &mut [u8]) -> Answer
+    ensures { answer_with result res.new [] message.new ≡ ended (without_work (length res.old) (length message.old)) (number_alone number) }
+{
+    number_alone(number, 0, res, &mut [], message)
+}
+
+// And of one that has a result buffer alone.
 #[tactic(auto, using(crate::proofs::Ends::result_alone_lem), unfolding(definition::specs::Answers::number_alone))]
 pub fn refuse_result(number: u32, res: &mut [u8]) -> Answer
     ensures { answer_with result res.new [] [] ≡ ended (result_alone (length res.old)) (number_alone number) }
@@ -125,6 +135,7 @@ pub fn answer_walk<'a>(
     message: &mut [u8],
 ) -> Answer
     ensures same_slice { cursor.new.bytes.ghost_name ≡ cursor.old.bytes.ghost_name }
+    ensures same_length { length cursor.new.bytes.now ≡ length cursor.old.bytes.now }
     ensures answers { AnswersOutcome definition.now.bytes.now definition.now.layout call.now.bytes.now call.now.layout (came_to walked cursor.old).walk cursor.old.bytes.now (buffers (length res.old) (length cursor.old.bytes.now) (length message.old)) (answer_with result res.new cursor.new.bytes.now message.new) }
 {
     let out = cursor.out;

@@ -18,6 +18,7 @@ fn run_all(rt: &impl Print, registry: &[u8]) -> io::Result<()> {
 }
 
 // Limit 100 unless said.
+// The number is the input: the case as document 01 counts them.
 fn limit_of(case: u32) -> u32 {
     match case {
         1 => 4,

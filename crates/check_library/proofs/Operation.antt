@@ -78,12 +78,6 @@ module _ (s : List ℕ) (l : Layout) (list : List ℕ) (m : ℕ) {v : Result Uni
 both_long : (r m : ℕ) → 12296 ≤ r → 2048 ≤ m → (leb 12296 r && leb 2048 m) ≡ true
 both_long r m h k = rw (le-leb 12296 r h, le-leb 2048 m k)
 
-pub early_ended : (r m n : ℕ) {a : code.Answer} {result none message : List ℕ}
-    → answer_with a result none message ≡ ended (buffers r 0 m) (Outcome.refused (refusal n 0 []) 0)
-    → answer_with a result [] message ≡ ended (without_work r m) (number_alone n)
-unfolding number_alone ended
-early_ended r m n e = without_work_lem (λ (u : Unit {0}). []) r m (Outcome.refused (refusal n 0 []) 0) e
-
 module _ (r m : ℕ) (s : List ℕ) {a : Answer} where
   pub short_result : r < 12296 → a ≡ ended (without_work r m) (number_alone 1) → a ≡ library_answer r m s
   unfolding library_answer result_answer

@@ -78,10 +78,10 @@ module _ (s : List ℕ) (l : Layout) (room : ℕ) {rs : List Row} (x : rs ≡ in
     named_refused e = rw (← x, ← e)
 
   module _ (list : List ℕ) where
-    pub listed : {end : ℕ} {bytes final : List ℕ} → Ok tt ≡ build_at s l rs → message_in bytes end ≡ put_from s l 0 rs (message_in list 0) → final ≡ zeroed bytes end
-        → listing (Ok tt) final ≡ listed_in s l room list
+    pub listed : {start : Message} {end : ℕ} {bytes final : List ℕ} → Ok tt ≡ build_at s l rs → start ≡ message_in list 0
+        → message_in bytes end ≡ put_from s l 0 rs start → final ≡ zeroed bytes end → listing (Ok tt) final ≡ listed_in s l room list
     unfolding listed_in
-    listed e h z = rw (← x, ← e, ← h, z)
+    listed e b h z = rw (← x, ← e, ← b, ← h, z)
 
     pub not_listed : {f : code.Refused} → Err f ≡ build_at s l rs → listing (Err f) list ≡ listed_in s l room list
     unfolding listed_in

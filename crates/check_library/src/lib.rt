@@ -4,18 +4,18 @@
 
 ghost use Rattle.std.specs.Prelude.{◌≡◌, [], length};
 ghost use Rattle.format.specs.Entry.{le};
-ghost use Rattle.definition.specs.Answers.{number_alone, without_work};
 ghost use Rattle.definition.specs.Library.{library_answer, check_at_answer};
-ghost use Rattle.buffer.specs.Buffer.{message_in, write_in};
+ghost use Rattle.buffer.specs.Message.{Puts, so_far};
 ghost use Rattle.answer.specs.Matches.{answer_with, ended};
 ghost use Rattle.check_library.specs.Rows.{verdict_at, row_of, put_in, put_from, checked_in, listing, listed_in, AnswersList};
 
-use answer::{Answer, answer_verdict, number_alone, refuse, refuse_number};
-use buffer::{value_bytes, write_at, zero_from};
+use answer::{Answer, answer_verdict, number_alone, refuse, refuse_number, refuse_without_work};
+use buffer::message::Message;
+use buffer::{value_bytes, zero_from};
 use check_body::verdict;
 use grammar::codes::DEFINITIONS;
 use messages::Refused;
-use registry::{Index, Row, index};
+use registry::{Index, Row};
 use tape::accept::accept;
 use tape::layout::Tape;
 
@@ -34,48 +34,47 @@ fn check_row(index: &Index, i: usize) -> Result<(), Refused>
 
 // ------------------------------------------------------------------ the list
 
-// Writes a number behind a list that ends at `at`, as far as the buffer reaches, and answers where it then ends.
+// Writes a number behind a list, as far as the buffer reaches.
 #[tactic(auto, unfolding(format::specs::Entry::le))]
-fn put_four(list: &mut [u8], at: usize, n: usize) -> usize
-    ensures { message_in list.new result ≡ write_in (le 4 n) (message_in list.old at) }
+fn put_four(list: &mut Message, n: usize)
+    ensures { Puts (le 4 n) list.old list.new }
 {
     let bytes = value_bytes(n as u64);
-    write_at(list, at, &bytes[0..4])
+    list.put(&bytes[0..4]);
 }
 
 // The same for a refused definition: index, number, start and end.
 #[tactic(auto, using(crate::proofs::Steps::row_put))]
-fn put_refused(list: &mut [u8], at: usize, i: usize, refused: Refused) -> usize
-    ensures { message_in list.new result ≡ write_in (row_of i refused) (message_in list.old at) }
+fn put_refused(list: &mut Message, i: usize, refused: Refused)
+    ensures { Puts (row_of i refused) list.old list.new }
 {
     let number = messages::number(refused.reason);
-    let a = put_four(list, at, i);
-    let b = put_four(list, a, number as usize);
-    let c = put_four(list, b, refused.span.start as usize);
-    put_four(list, c, refused.span.end as usize)
+    put_four(list, i);
+    put_four(list, number as usize);
+    put_four(list, refused.span.start as usize);
+    put_four(list, refused.span.end as usize);
 }
 
 // A definition that passes is not listed.
 #[tactic(auto, unfolding(crate::specs::Rows::put_in))]
-fn put_verdict(list: &mut [u8], at: usize, i: usize, verdict: Result<(), Refused>) -> usize
-    ensures { message_in list.new result ≡ put_in i verdict (message_in list.old at) }
+fn put_verdict(list: &mut Message, i: usize, verdict: Result<(), Refused>)
+    ensures same_slice { list.new.bytes.ghost_name ≡ list.old.bytes.ghost_name }
+    ensures written { so_far list.new ≡ put_in i verdict (so_far list.old) }
 {
-    match verdict {
-        Ok(()) => at,
-        Err(refused) => put_refused(list, at, i, refused),
+    if let Err(refused) = verdict {
+        put_refused(list, i, refused);
     }
 }
 
-// The refused definitions of an index, and where their list ends.
+// The refused definitions of an index.
 #[tactic(auto, using(crate::proofs::Steps::put_turn, crate::proofs::Steps::put_end))]
-fn put_list(index: &Index, list: &mut [u8]) -> usize
-    ensures { message_in list.new result ≡ put_from index.now.tape.bytes.now index.now.tape.layout 0 index.now.rows.now (message_in list.old 0) }
+fn put_list(index: &Index, list: &mut Message)
+    ensures same_slice { list.new.bytes.ghost_name ≡ list.old.bytes.ghost_name }
+    ensures written { so_far list.new ≡ put_from index.now.tape.bytes.now index.now.tape.layout 0 index.now.rows.now (so_far list.old) }
 {
-    let mut at: usize = 0;
     for (i, row) in index.rows.iter().enumerate() {
-        at = put_verdict(list, at, i, verdict(&index.tape, row.place));
+        put_verdict(list, i, verdict(&index.tape, row.place));
     }
-    at
 }
 
 // 10 and 11, or the list and zeros behind it. The registry, which has 255 definitions at the most, is indexed once.
@@ -83,14 +82,12 @@ fn put_list(index: &Index, list: &mut [u8]) -> usize
 fn list_registry(tape: &Tape, list: &mut [u8]) -> Result<(), Refused>
     ensures { listing result list.new ≡ listed_in tape.now.bytes.now tape.now.layout 255 list.old }
 {
-    let mut rows = [Row::EMPTY; 255];
-    let count = index(tape, &mut rows);
-    let index = Index {
-        tape: *tape,
-        rows: &rows[..count],
-    };
+    let mut table = [Row::EMPTY; 255];
+    let index = Index::new(tape, &mut table);
     index.check_names()?;
-    let end = put_list(&index, list);
+    let mut rows = Message::new(list);
+    put_list(&index, &mut rows);
+    let end = rows.len;
     zero_from(list, end);
     Ok(())
 }
@@ -105,14 +102,6 @@ fn answer_list(tape: &Tape, res: &mut [u8], message: &mut [u8]) -> Answer
     }
 }
 
-// A refusal that comes before a walk, of an operation that has a result and a message buffer.
-#[tactic(auto, using(crate::proofs::Operation::early_ended))]
-fn refuse_early(number: u32, res: &mut [u8], message: &mut [u8]) -> Answer
-    ensures { answer_with result res.new [] message.new ≡ ended (without_work (length res.old) (length message.old)) (number_alone number) }
-{
-    number_alone(number, 0, res, &mut [], message)
-}
-
 // The operation: 1 for buffers that are too short, then the tape, then 10 and 11; else 0, and the list of the refused definitions. The
 // answer and every byte of both buffers are what the definition says, for every slice and all buffers.
 #[tactic(auto, using(crate::proofs::Operation::short_result, crate::proofs::Operation::short_message, crate::proofs::Operation::library_refused))]
@@ -120,10 +109,10 @@ pub fn check_library(registry: &[u8], res: &mut [u8], message: &mut [u8]) -> Ans
     ensures { answer_with result res.new [] message.new ≡ library_answer (length res.old) (length message.old) registry.now }
 {
     if res.len() < 12296 || message.len() < 2048 {
-        return refuse_early(numbers::SHORT_BUFFER, res, message);
+        return refuse_without_work(numbers::SHORT_BUFFER, res, message);
     }
     match accept(registry, DEFINITIONS) {
-        Err(fault) => refuse_early(fault.number(), res, message),
+        Err(fault) => refuse_without_work(fault.number(), res, message),
         Ok(layout) => {
             let tape = Tape {
                 bytes: registry,
@@ -141,12 +130,8 @@ pub fn check_library(registry: &[u8], res: &mut [u8], message: &mut [u8]) -> Ans
 fn check_registry(tape: &Tape, i: usize) -> Result<(), Refused>
     ensures { result ≡ checked_in tape.now.bytes.now tape.now.layout 255 i }
 {
-    let mut rows = [Row::EMPTY; 255];
-    let count = index(tape, &mut rows);
-    let index = Index {
-        tape: *tape,
-        rows: &rows[..count],
-    };
+    let mut table = [Row::EMPTY; 255];
+    let index = Index::new(tape, &mut table);
     index.check_names()?;
     check_row(&index, i)
 }

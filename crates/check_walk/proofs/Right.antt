@@ -61,14 +61,13 @@ use Rattle.messages.specs.declared.Reason.{Reason}
 use Rattle.messages.specs.declared.Reason.TheVariants.{Undeclared, PlainIdentifier, MacroInMacro}
 use Rattle.messages.specs.declared.Refused.{Refused}
 use Rattle.answer.specs.Matches.{RefusalMatches}
-use Rattle.walk_state.specs.Reading.{after, and_then_in, items_in, refused_in, passed_in, past_name_in}
+use Rattle.walk_state.specs.Reading.{after, and_then_in, items_in, refused_in, passed_in, behind_in, past_name_in}
 use Rattle.check_parts.specs.Names.{Declaration, plain_in, declared_in, param_in, sigil_in, within_in, slot_in, binder_in, binders_in}
 use Rattle.check_walk.specs.Walk.{
   Walkers,
   call_in,
   field_in,
   fields_in,
-  behind_in,
   since_in,
   condition_node_in,
   term_node_in,

@@ -4,10 +4,7 @@
 use Rattle.nodes.specs.declared.Refusal.{Refusal}
 use Rattle.messages.specs.declared.Refused.{Refused}
 use Rattle.std.specs.Prelude.{ℕ, zero, suc, List, Result, Ok, Err}
-use Rattle.grammar.specs.Grammar as grammar
 use Rattle.nodes.specs.Node.{on_value, expect_at, condition_at, term_at, agg_at}
-use Rattle.tape.specs.Scan.{skip_at}
-use Rattle.tape.specs.declared.layout.Layout.{Layout}
 use Rattle.tape.specs.declared.layout.Place.{Place}
 use Rattle.nodes.specs.declared.ConditionNode.{ConditionNode}
 use Rattle.nodes.specs.declared.ConditionNode.TheVariants as condition
@@ -24,7 +21,7 @@ use Rattle.walk_state.specs.Reading.{
   without_message_of,
   malformed_in,
   too_deep_in,
-  passed_in,
+  behind_in,
   past_name_in,
 }
 use Rattle.check_parts.specs.Names.{Declaration, plain_in, param_in, sigil_in, within_in, slot_in, binder_in, binders_in}
@@ -38,11 +35,6 @@ pub record Walkers : Type 0 where
 -- a call, whose arguments are not looked at
 abbrev pub call_in : ℕ → Result Place Refused
 call_in span = refused_in span MacroInMacro
-
--- where the left side of a Since ends: where its walk came, or, if that was refused, where a skip comes
-unfoldable pub behind_in : List ℕ → Layout → Place → Result Place Refused → Result Place Refused
-behind_in s l left (Ok p) = Ok p
-behind_in s l left (Err r) = passed_in (skip_at s l left grammar.condition)
 
 module _ (s : List ℕ) (d : Declaration) where
   -- a field's term

@@ -4,18 +4,16 @@
 
 ghost use Rattle.std.specs.Prelude.{◌≡◌, Ok};
 ghost use Rattle.check_parts.specs.Names.{declaration};
-ghost use Rattle.check_walk.specs.Walk.{fields_in, behind_in, since_in, walkers};
+ghost use Rattle.check_walk.specs.Walk.{fields_in, since_in, walkers};
 
 use check_parts::{Declared, plain_ident_in_body};
 use grammar::code;
-use grammar::codes::CONDITION;
 use messages::{Reason, Refused, refuse};
 use nodes::{
     AggNode, ConditionNode, Refusal, TermNode, expect, read_agg, read_condition, read_term,
 };
-use tape::layout::{Place, Tape};
-use tape::scan::skip;
-use walk_state::reading::past_name;
+use tape::layout::Place;
+use walk_state::reading::{behind, past_name};
 
 // A value body's terms have the span 0..0 outside aggregates, sides of arithmetic included.
 pub fn check_temporal_value_body(nesting: usize, d: &Declared, p: Place) -> Result<Place, Refused>
@@ -76,17 +74,6 @@ fn since(nesting: usize, d: &Declared, span: u64, next: Place) -> Result<Place, 
     let right = d.check_within_in_body(span, behind(&d.tape, next, &left)?)?;
     left?;
     check_temporal_condition_body(nesting, d, right)
-}
-
-// Where the left side of a Since ends: where its walk came, or, if that was refused, where a skip comes.
-#[tactic(auto, unfolding(crate::specs::Walk::behind_in, walk_state::specs::Reading::passed_in, walk_state::specs::Reading::refused_in, nodes::specs::Node::span_of, nodes::specs::Node::refusal_of))]
-fn behind(tape: &Tape, next: Place, left: &Result<Place, Refused>) -> Result<Place, Refused>
-    ensures { result ≡ behind_in tape.now.bytes.now tape.now.layout next left.now }
-{
-    match left {
-        Ok(p) => Ok(*p),
-        Err(_) => Ok(skip(tape, next, CONDITION).ok_or(Refusal::MALFORMED)?),
-    }
 }
 
 // A list of fields. It has a loop of its own: as a part of the cycle a closure for `along` would need a contract and measures.

@@ -7,8 +7,7 @@ use mathlib.Core.Bool.{false}
 use mathlib.Core.List.{List, [], ◌∷◌, ◌++◌, append_assoc}
 use native.Mathlib.Nat.{zero-add}
 use native.Mathlib.Omega.{arith}
-use borrow.Author.Tests.{le-leb, lt-ltb, eq-eqb, ne_eqb}
-use lib.Dec.{eqb}
+use borrow.Author.Tests.{le-leb, eq-eqb, ne_eqb}
 use lib.ListN.{length, length-append}
 use Rattle.format.specs.Entry.{Entry, entry, codes_of, values_of, text_of}
 use Rattle.format.specs.Flat.{flat_condition}
@@ -21,6 +20,7 @@ use Rattle.tape.specs.declared.layout.Place.{Place}
 use Rattle.tape.proofs.Located.{past, past_append, past_at, Inside, inside_front, inside_back, inside_next, inside_skip}
 use Rattle.tape.proofs.Runs.{run_code, run_value}
 use Rattle.tape.proofs.Trees.{passes_condition}
+use Rattle.de_morgan.specs.declared.Side.{Side}
 use Rattle.de_morgan.specs.Rewritten.{begins_at, negation, sides_after, sides_with, heads_of, heads_from}
 
 -- ------------------------------------------------------------------ entries without their texts
@@ -52,36 +52,42 @@ bare_values (e ∷ es) = rw (bare_values es) refl
 -- ------------------------------------------------------------------ right sides to come
 
 -- none begins in front of entry k
-abbrev Later : ℕ → List ℕ → Type 0
+abbrev Later : ℕ → List Side → Type 0
 Later k sides = (at : ℕ) → at < k → begins_at at sides ≡ false
 
-begins_first : (at q span : ℕ) (sides : List ℕ) → begins_at at (q ∷ span ∷ sides) ≡ eqb q at
-unfolding begins_at
-begins_first at q span sides = rw (lt-ltb 1 (suc (suc (length sides))) (omega arith)) refl
+no_negation : (at : ℕ) (sides : List Side) → begins_at at sides ≡ false → negation at sides ≡ []
+unfolding begins_at negation
+no_negation at [] h = refl
+no_negation at (side ∷ sides) h = rw h refl
+
+none_gone : (at : ℕ) (sides : List Side) → begins_at at sides ≡ false → sides_after at sides ≡ sides
+unfolding begins_at sides_after
+none_gone at [] h = refl
+none_gone at (side ∷ sides) h = rw h refl
 
 module _ (s : List ℕ) (l : Layout) where
   -- a side that begins, where no other does
-  side_opens : (left mid text span : ℕ) (sides : List ℕ) → begins_at mid sides ≡ false
-      → heads_from s l (suc left) mid text (mid ∷ span ∷ sides) ≡ entry 3 span ∷ heads_from s l (suc left) mid text sides
+  side_opens : (left mid text span : ℕ) (sides : List Side) → begins_at mid sides ≡ false
+      → heads_from s l (suc left) mid text (record { at = mid; span = span } ∷ sides) ≡ entry 3 span ∷ heads_from s l (suc left) mid text sides
   unfolding heads_from negation sides_after
-  side_opens left mid text span sides h = rw (begins_first mid mid span sides, eq-eqb mid mid refl, h) refl
+  side_opens left mid text span sides h = rw (eq-eqb mid mid refl, no_negation mid sides h, none_gone mid sides h) refl
 
   -- an entry that is read where no side begins
   module _ {p : Place} {e : Entry} {es : List Entry} (i : Inside s l p (e ∷ es)) where
-    entry_read : (left : ℕ) (sides : List ℕ) → begins_at p.at sides ≡ false
+    entry_read : (left : ℕ) (sides : List Side) → begins_at p.at sides ≡ false
         → heads_from s l (suc left) p.at p.text sides
         ≡ heads_of e.code e.value
         ++ heads_from s l left (p.at + 1) (p.text + length e.text) (sides_with s l e.code e.value (onward p (length e.text)) sides)
-    unfolding heads_from negation sides_after text_of
+    unfolding heads_from text_of
     entry_read left sides h =
         let width = all_head i.texted in
         let room : length e.text ≤ l.size - p.text = omega (arith, i.run.text_left, length-append e.text (text_of es)) in
-        rw (h, run_code i.run, run_value i.run, ← width, le-leb (length e.text) (l.size - p.text) room) refl
+        rw (no_negation p.at sides h, none_gone p.at sides h, run_code i.run, run_value i.run, ← width, le-leb (length e.text) (l.size - p.text) room) refl
 
-  pub heads_become : {es fs : List Entry} → Becomes es fs → {p : Place} → Inside s l p es → (left : ℕ) (sides : List ℕ)
+  pub heads_become : {es fs : List Entry} → Becomes es fs → {p : Place} → Inside s l p es → (left : ℕ) (sides : List Side)
       → Later (p.at + length es) sides
       → heads_from s l (length es + left) p.at p.text sides ≡ bare fs ++ heads_from s l left (past es p).at (past es p).text sides
-  unfolding past bare heads_of sides_with
+  unfolding past bare heads_of sides_with begins_at
   heads_become nothing i left sides h = rw (zero-add left) refl
   heads_become (kept {e = e} {es = es} {fs = fs} k b) {p} i left sides h =
       let n : length (e ∷ es) + left ≡ suc (length es + left) = omega arith in
@@ -113,12 +119,12 @@ module _ (s : List ℕ) (l : Layout) where
       let n : suc (length (ls ++ rs)) + left ≡ suc (length ls + (length rs + left)) = omega arith in
       let right = length rs - 1 + left in
       let n' : length rs + left ≡ suc right = omega (arith, some) in
-      let opens : heads_from s l (length rs + left) mid text (mid ∷ span ∷ sides) ≡ entry 3 span ∷ heads_from s l (length rs + left) mid text sides =
+      let opens : heads_from s l (length rs + left) mid text (record { at = mid; span = span } ∷ sides) ≡ entry 3 span ∷ heads_from s l (length rs + left) mid text sides =
       rw n' (side_opens right mid text span sides (h mid (omega (arith, m, k, some)))) in
       rw (n, entry_read i (length ls + (length rs + left)) sides (h p.at (omega arith)), found)
       (ap (λ (x : List Entry). entry 3 span ∷ entry 1 span ∷ entry 3 span ∷ x)
-      (heads_become ba (inside_front ls rs inner) (length rs + left) (mid ∷ span ∷ sides)
-      (λ at j. begins_first at mid span sides ∙ ne_eqb mid at (λ z. omega (arith, j, z, m)))
+      (heads_become ba (inside_front ls rs inner) (length rs + left) (record { at = mid; span = span } ∷ sides)
+      (λ at j. ne_eqb mid at (λ z. omega (arith, j, z, m)))
       ∙ ap (λ (x : List Entry). bare l' ++ x)
       (opens ∙ ap (λ (x : List Entry). entry 3 span ∷ x) (heads_become bb (inside_back ls rs inner) left sides (λ at j. h at (omega (arith, j, m, k)))))
       ∙ rw (bare_append l' (entry 3 span ∷ r'), past_append ls rs q) (sym (append_assoc (bare l') (entry 3 span ∷ bare r') _))))

@@ -2,10 +2,10 @@
 -- Assumes nothing.
 use Prim.Native.Nat.{ℕ, suc, ◌+◌, ◌*◌, ◌≤◌}
 use mathlib.Core.Path.{◌≡◌, refl, sym, ap, ◌∙◌}
-use mathlib.Core.List.{List, [], ◌∷◌, ◌++◌}
+use mathlib.Core.List.{List, [], ◌∷◌, ◌++◌, reverse}
 use native.Mathlib.Nat.{add-zero}
 use native.Mathlib.Omega.{arith}
-use lib.ListN.{length, drop, set}
+use lib.ListN.{length, set}
 use lib.Seq.{sets, set_comm}
 use Rattle.buffer.proofs.Sets.{sets_append}
 use Rattle.format.proofs.Accepted.{length_codes}
@@ -14,7 +14,7 @@ use Rattle.format.specs.Entry.{Entry, le, codes_of, values_of}
 use Rattle.tape.specs.Layouts.{code_at, value_at, width_at, text_behind}
 use Rattle.tape.specs.declared.layout.Layout.{Layout}
 use Rattle.de_morgan.specs.Rewritten.{negation, heads_of, heads_from, put_head, put_heads, SideBegun, EntryPut, SideAdded}
-use Rattle.de_morgan.specs.declared.Begun.{Begun}
+use Rattle.de_morgan.specs.declared.Side.{Side}
 
 pub put_append : (n at : ℕ) (es fs : List Entry) (out : List ℕ)
     → put_heads n at (es ++ fs) out ≡ put_heads n (at + length es) fs (put_heads n at es out)
@@ -54,26 +54,26 @@ heads_put n at (e ∷ es) out h =
 
 -- ------------------------------------------------------------------ the loop
 
--- what is left to put, from a place on
-abbrev pub left_to_put : List ℕ → Layout → ℕ → ℕ → ℕ → ℕ → ℕ → List ℕ → List ℕ → List ℕ
-left_to_put s l n left at text put sides out = put_heads n put (heads_from s l left at text sides) out
+-- what is left to put, from a place on; the nearest side is the last
+abbrev pub left_to_put : List ℕ → Layout → ℕ → ℕ → ℕ → ℕ → ℕ → List Side → List ℕ → List ℕ
+left_to_put s l n left at text put sides out = put_heads n put (heads_from s l left at text (reverse sides)) out
 
 -- an entry's turn: the negation in front of it, what it becomes, and the right side that it brings
-module _ (s : List ℕ) (l : Layout) (n left at text put : ℕ) (sides : List ℕ) (top : ℕ) (out : List ℕ) where
-  pub put_turn : {b : Begun} {code value text' put' top' : ℕ} {out₁ out₂ sides' : List ℕ}
-      → SideBegun n put at sides top out b out₁
+module _ (s : List ℕ) (l : Layout) (n left at text put : ℕ) (sides : List Side) (out : List ℕ) where
+  pub put_turn : {begun code value text' put' : ℕ} {sides₁ sides₂ : List Side} {out₁ out₂ : List ℕ}
+      → SideBegun n put at sides out begun sides₁ out₁
       → code ≡ code_at s l at → value ≡ value_at s l at → text' ≡ text_behind l.size text (width_at s l at)
-      → EntryPut n b.put code value out₁ put' out₂
-      → SideAdded s l code value (record { at = at + 1; text = text' }) sides b.top top' sides'
-      → left_to_put s l n left (at + 1) text' put' (drop top' sides') out₂
-      ≡ left_to_put s l n (suc left) at text put (drop top sides) out
+      → EntryPut n begun code value out₁ put' out₂
+      → SideAdded s l code value (record { at = at + 1; text = text' }) sides₁ sides₂
+      → left_to_put s l n left (at + 1) text' put' sides₂ out₂
+      ≡ left_to_put s l n (suc left) at text put sides out
   unfolding heads_from
-  put_turn {b} {code} {value} {text'} {put'} {top'} {out₁} {out₂} {sides'} p c v t e a =
-      let rest = heads_from s l left (at + 1) text' (drop top' sides') in
+  put_turn {begun} {code} {value} {text'} {put'} {sides₁} {sides₂} {out₁} {out₂} p c v t e a =
+      let rest = heads_from s l left (at + 1) text' (reverse sides₂) in
       let heads = heads_of code value in
-      let first = negation at (drop top sides) in
-      let same : heads_from s l (suc left) at text (drop top sides) ≡ first ++ (heads ++ rest) =
-      rw (← t, ← c, ← v, ← p.top_is, ← a.sides_are) refl in
+      let first = negation at (reverse sides) in
+      let same : heads_from s l (suc left) at text (reverse sides) ≡ first ++ (heads ++ rest) =
+      rw (← t, ← c, ← v, ← p.sides_are, ← a.sides_are) refl in
       rw (
         same,
         put_append n put first (heads ++ rest) out,

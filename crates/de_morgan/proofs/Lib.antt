@@ -4,3 +4,4 @@ pub mod Among
 pub mod Heads
 pub mod Becoming
 pub mod Rewritten
+pub mod Last

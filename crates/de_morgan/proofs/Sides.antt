@@ -1,46 +1,82 @@
--- The list of right sides that are still to come, in memory and as it is meant.
+-- The vector of right sides that are still to come, in which the nearest is the last, and as it is meant.
 -- Assumes nothing.
-use Prim.Native.Nat.{ℕ, suc, ◌+◌, ◌-◌, ◌≤◌, ◌<◌}
-use mathlib.Core.Path.{◌≡◌, refl, sym}
-use mathlib.Core.Bool.{true}
-use mathlib.Core.List.{List, ◌∷◌}
+use Rattle.std.proofs.Common.{Option, Some, None}
+use Prim.Native.Nat.{ℕ, ◌+◌, ◌-◌}
+use mathlib.Core.Path.{◌≡◌, refl, ap, ◌∙◌}
+use mathlib.Core.Bool.{true, false}
+use mathlib.Core.List.{List, [], ◌∷◌, ◌++◌, reverse}
 use native.Mathlib.Omega.{arith}
-use borrow.Author.Tests.{ltb-true}
-use lib.Dec.{ltb, eqb}
-use lib.ListN.{length, drop, get_or, set, length-drop, length-set, take}
-use lib.Seq.{drop-cons, drop-drop, drop-set-lt, get_or-set_same, take-length}
-use Rattle.format.proofs.Tests.{and_left, from_true, is_true}
-use Rattle.de_morgan.specs.Rewritten.{begins_at}
+use borrow.Author.Tests.{eq-eqb, ne_eqb}
+use lib.Dec.{eqb}
+use lib.ListN.{length, take, length-append}
+use Rattle.std.specs.List.{slice_get}
+use Rattle.std.specs.Option.{option_to_list}
+use Rattle.format.specs.Limits.{weigh}
+use Rattle.tape.specs.Scan.{skip_at}
+use Rattle.tape.specs.declared.layout.Layout.{Layout}
+use Rattle.tape.specs.declared.layout.Place.{Place}
+use Rattle.de_morgan.specs.declared.Side.{Side}
+use Rattle.de_morgan.proofs.Last.{on_top, last_none, last_some}
+use Rattle.de_morgan.specs.Rewritten.{right_of, negation, sides_after, sides_with, put_head, put_heads, SideBegun, SideAdded}
 
--- a side that begins stands in the list, with its span
-pub begins_room : (at : ℕ) (sides : List ℕ) → begins_at at sides ≡ true → 1 < length sides
-unfolding begins_at
-begins_room at sides e =
-    ltb-true 1 (length sides) (is_true (and_left (ltb 1 (length sides)) (eqb (get_or sides 0 0) at) (from_true e)))
+module _ (n put at : ℕ) (sides : List Side) (out : List ℕ) where
+  pub none_waits : slice_get sides (length sides - 1) ≡ None → SideBegun n put at sides out put sides out
+  unfolding negation sides_after put_heads
+  none_waits e =
+      let none = last_none sides e in
+      record {
+        sides_are = rw none refl;
+        no_more = omega arith;
+        put_is = rw none (omega arith);
+        put_most = omega arith;
+        written = rw none refl;
+      }
 
-pub rest_whole : (top : ℕ) (sides : List ℕ) → take (length sides - top) (drop top sides) ≡ drop top sides
-rest_whole top sides = rw (← length-drop top sides) (take-length (drop top sides))
+  pub other_waits : {side : Side} → slice_get sides (length sides - 1) ≡ Some side → (side.at ≡ at → ⊥) → SideBegun n put at sides out put sides out
+  unfolding negation sides_after put_heads
+  other_waits {side} e f =
+      let rest = take (length sides - 1) sides in
+      let waits : reverse sides ≡ side ∷ reverse rest = last_some sides side e in
+      let b : eqb side.at at ≡ false = ne_eqb side.at at f in
+      record {
+        sides_are = rw (waits, b) refl;
+        no_more = omega arith;
+        put_is = rw (waits, b) (omega arith);
+        put_most = omega arith;
+        written = rw (waits, b) refl;
+      }
 
-pub behind_two : (top : ℕ) (sides : List ℕ) → drop (top + 2) sides ≡ drop 2 (drop top sides)
-behind_two top sides = sym (drop-drop 2 top sides)
+  pub side_begins : {side : Side} {after : List Side} {popped : Option Side} {written : List ℕ} → slice_get sides (length sides - 1) ≡ Some side → side.at ≡ at
+      → popped ≡ slice_get sides (length sides - 1) → sides ≡ after ++ option_to_list popped → written ≡ put_head n put 3 side.span out
+      → SideBegun n put at sides out (put + 1) after written
+  unfolding negation sides_after put_heads
+  side_begins {side} {after} {popped} {written} e f p h w =
+      let is : sides ≡ after ++ side ∷ [] = h ∙ ap (λ (x : Option Side). after ++ option_to_list x) (p ∙ e) in
+      let waits : reverse sides ≡ side ∷ reverse after = ap reverse is ∙ on_top after side in
+      let b : eqb side.at at ≡ true = eq-eqb side.at at f in
+      let long : length sides ≡ length after + 1 = ap length is ∙ length-append after (side ∷ []) in
+      record {
+        sides_are = rw (waits, b) refl;
+        no_more = omega (arith, long);
+        put_is = rw (waits, b) refl;
+        put_most = omega arith;
+        written = w ∙ rw (waits, b) refl;
+      }
 
--- two stores below the top are a side more
-pub side_stored : (sides : List ℕ) (top right span : ℕ) → 2 ≤ top → top ≤ length sides
-    → drop (top - 2) (set (set sides (top - 1) span) (top - 2) right) ≡ right ∷ span ∷ drop top sides
-side_stored sides top right span h k =
-    let t = top - 2 in
-    let e₁ : top - 1 ≡ suc t = omega arith in
-    let e₂ : top ≡ suc (suc t) = omega arith in
-    let s₁ = set sides (suc t) span in
-    let s₂ = set s₁ t right in
-    let l₁ : length s₁ ≡ length sides = length-set sides (suc t) span in
-    let l₂ : length s₂ ≡ length s₁ = length-set s₁ t right in
-    rw (e₁, drop-cons s₂ t 0 (omega arith), get_or-set_same s₁ t right 0 (omega arith))
-    (rw (
-      drop-set-lt (suc t) s₁ t right (omega arith),
-      drop-cons s₁ (suc t) 0 (omega arith),
-      get_or-set_same sides (suc t) span 0 (omega arith),
-      drop-set-lt (suc (suc t)) sides (suc t) span (omega arith),
-      ← e₂,
-    )
-    refl)
+-- the right side that an Or brings, or none
+module _ (s : List ℕ) (l : Layout) (code value : ℕ) (next : Place) (sides : List Side) where
+  pub side_added : {right : ℕ} {after : List Side} → right ≡ right_of (skip_at s l next 1) → code ≡ 2 → after ≡ sides ++ record { at = right; span = value } ∷ []
+      → SideAdded s l code value next sides after
+  unfolding sides_with weigh
+  side_added {right} {after} r c h =
+      let b : eqb code 2 ≡ true = eq-eqb code 2 c in
+      record {
+        sides_are = rw (b, h, r) (on_top sides (record { at = right_of (skip_at s l next 1); span = value }));
+        one_more = rw b (ap length h ∙ length-append sides (record { at = right; span = value } ∷ []));
+      }
+
+  pub none_added : (code ≡ 2 → ⊥) → SideAdded s l code value next sides sides
+  unfolding sides_with weigh
+  none_added f =
+      let b : eqb code 2 ≡ false = ne_eqb code 2 f in
+      record { sides_are = rw b refl; one_more = rw b (omega arith) }

@@ -2,7 +2,7 @@
 -- of its left side, a 3 comes in front of its right one, every other entry stays, and so does the text. Where the slice holds a tree at
 -- the layout's start, this is the tape of the rewritten tree (proofs/Rewritten.antt).
 -- Assumes nothing.
-use Rattle.std.specs.Prelude.{ℕ, zero, suc, ◌+◌, ◌*◌, ◌≤◌, ◌≡◌, List, [], ◌∷◌, ◌++◌, Bool, ◌&&◌, leb, ltb, eqb, length, drop, get_or, Option, Some, None}
+use Rattle.std.specs.Prelude.{ℕ, zero, suc, ◌+◌, ◌*◌, ◌≤◌, ◌≡◌, List, [], ◌∷◌, ◌++◌, reverse, Bool, false, ◌&&◌, leb, eqb, length, Option, Some, None}
 use Rattle.std.proofs.lemmas.List.Edits.{sets}
 use Rattle.format.specs.Entry.{Entry, entry, le}
 use Rattle.format.specs.Limits.{weigh}
@@ -13,20 +13,23 @@ use Rattle.tape.specs.Pick.{pick}
 use Rattle.tape.specs.Scan.{skip_at}
 use Rattle.tape.specs.declared.layout.Layout.{Layout}
 use Rattle.tape.specs.declared.layout.Place.{Place}
-use Rattle.de_morgan.specs.declared.Begun.{Begun}
+use Rattle.de_morgan.specs.declared.Side.{Side}
 
 -- ------------------------------------------------------------------ right sides that are still to come
 
--- The nearest first, two numbers for each: the entry where it begins, and the span of its Or. One begins at an entry:
-unfoldable pub begins_at : ℕ → List ℕ → Bool
-begins_at at sides = ltb 1 (length sides) && eqb (get_or sides 0 0) at
+-- The nearest first. One begins at an entry:
+unfoldable pub begins_at : ℕ → List Side → Bool
+begins_at at [] = false
+begins_at at (side ∷ sides) = eqb side.at at
 
 -- the negation in front of that entry, and the sides behind it
-unfoldable pub negation : ℕ → List ℕ → List Entry
-negation at sides = pick (begins_at at sides) (entry 3 (get_or sides 1 0) ∷ []) []
+unfoldable pub negation : ℕ → List Side → List Entry
+negation at [] = []
+negation at (side ∷ sides) = pick (eqb side.at at) (entry 3 side.span ∷ []) []
 
-unfoldable pub sides_after : ℕ → List ℕ → List ℕ
-sides_after at sides = pick (begins_at at sides) (drop 2 sides) sides
+unfoldable pub sides_after : ℕ → List Side → List Side
+sides_after at [] = []
+sides_after at (side ∷ sides) = pick (eqb side.at at) sides (side ∷ sides)
 
 -- Where a right side begins, behind the left one; 0, where none begins any more, if no condition stands there.
 abbrev pub right_of : Option Place → ℕ
@@ -34,8 +37,8 @@ right_of (Some p) = p.at
 right_of None = 0
 
 -- an Or brings a right side
-unfoldable pub sides_with : List ℕ → Layout → ℕ → ℕ → Place → List ℕ → List ℕ
-sides_with s l code value next sides = pick (eqb code 2) (right_of (skip_at s l next 1) ∷ value ∷ sides) sides
+unfoldable pub sides_with : List ℕ → Layout → ℕ → ℕ → Place → List Side → List Side
+sides_with s l code value next sides = pick (eqb code 2) (record { at = right_of (skip_at s l next 1); span = value } ∷ sides) sides
 
 -- ------------------------------------------------------------------ its entries
 
@@ -47,7 +50,7 @@ abbrev pub place_behind : List ℕ → Layout → ℕ → ℕ → Place
 place_behind s l at text = record { at = at + 1; text = text_behind l.size text (width_at s l at) }
 
 -- codes and values of what `left` entries from a place on become, with the right sides to come
-unfoldable pub heads_from : List ℕ → Layout → ℕ → ℕ → ℕ → List ℕ → List Entry
+unfoldable pub heads_from : List ℕ → Layout → ℕ → ℕ → ℕ → List Side → List Entry
 heads_from s l zero at text sides = []
 heads_from s l (suc left) at text sides =
     let code = code_at s l at in
@@ -86,14 +89,13 @@ rewritten_layout s l = pick (can_rewrite s l) (tape_layout (rewritten_count s l)
 
 -- ------------------------------------------------------------------ parts of the loop
 
--- the negation in front of an entry was put, where a right side begins there
-pub record SideBegun (n put at : ℕ) (sides : List ℕ) (top : ℕ) (out : List ℕ) (r : Begun) (after : List ℕ) : Type 0 where
-  pub top_is : drop r.top sides ≡ sides_after at (drop top sides)
-  pub top_up : top ≤ r.top
-  pub top_most : r.top ≤ length sides
-  pub put_is : r.put ≡ put + length (negation at (drop top sides))
-  pub put_most : r.put ≤ put + 1
-  pub written : after ≡ put_heads n put (negation at (drop top sides)) out
+-- The code has the nearest side last. The negation in front of an entry was put, where a right side begins there.
+pub record SideBegun (n put at : ℕ) (sides : List Side) (out : List ℕ) (r : ℕ) (left : List Side) (after : List ℕ) : Type 0 where
+  pub sides_are : reverse left ≡ sides_after at (reverse sides)
+  pub no_more : length left ≤ length sides
+  pub put_is : r ≡ put + length (negation at (reverse sides))
+  pub put_most : r ≤ put + 1
+  pub written : after ≡ put_heads n put (negation at (reverse sides)) out
 
 -- what an entry becomes was put
 pub record EntryPut (n put code value : ℕ) (out : List ℕ) (r : ℕ) (after : List ℕ) : Type 0 where
@@ -101,8 +103,7 @@ pub record EntryPut (n put code value : ℕ) (out : List ℕ) (r : ℕ) (after :
   pub put_most : r ≤ put + 3
   pub written : after ≡ put_heads n put (heads_of code value) out
 
--- the right side that an entry brings was added below the top
-pub record SideAdded (s : List ℕ) (l : Layout) (code value : ℕ) (next : Place) (sides : List ℕ) (top r : ℕ) (after : List ℕ) : Type 0 where
-  pub top_least : top ≤ r + 2 * weigh (eqb code 2)
-  pub top_most : r ≤ top
-  pub sides_are : drop r after ≡ sides_with s l code value next (drop top sides)
+-- the right side that an entry brings was added
+pub record SideAdded (s : List ℕ) (l : Layout) (code value : ℕ) (next : Place) (sides after : List Side) : Type 0 where
+  pub sides_are : reverse after ≡ sides_with s l code value next (reverse sides)
+  pub one_more : length after ≡ length sides + weigh (eqb code 2)

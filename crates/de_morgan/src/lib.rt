@@ -5,12 +5,14 @@
 // and the text as it is. The tape has three entries more for each Or.
 #![tactic(auto)]
 
-ghost use Rattle.std.specs.Prelude.{◌≡◌, ◌&&◌, [], ◌+◌, ◌*◌, ◌≤◌, eqb, length, drop};
+ghost use Rattle.std.specs.Prelude.{◌≡◌, ◌&&◌, [], ◌+◌, ◌*◌, ◌≤◌, ◌<◌, eqb, reverse};
+ghost use Rattle.arrayvec.specs.ArrayVec.{array_vec_len};
 ghost use Rattle.format.specs.Macro.{tally};
 ghost use Rattle.tape.specs.Ors.{coded, ors_from, ors_in};
 ghost use Rattle.tape.specs.Scan.{skip_at};
-ghost use Rattle.de_morgan.specs.Rewritten.{begins_at, right_of, heads_from, put_head, put_heads, tape_in, rewritten_in, rewritten_layout, SideBegun, EntryPut, SideAdded};
+ghost use Rattle.de_morgan.specs.Rewritten.{right_of, heads_from, put_head, put_heads, tape_in, rewritten_in, rewritten_layout, SideBegun, EntryPut, SideAdded};
 
+use arrayvec::ArrayVec;
 use buffer::{value_bytes, write, write_size};
 use grammar::code;
 use grammar::codes::CONDITION;
@@ -46,39 +48,34 @@ fn put_entry(out: &mut [u8], n: usize, put: usize, code: u8, value: u64) -> usiz
     put + 3
 }
 
-// Right sides that are still to come stand in a list that grows downward, the nearest on top, two numbers for each: the entry where it
-// begins, and the span of its Or. They begin in that order, and at most one at an entry.
-
-// Whether the nearest begins at entry `at`.
-#[tactic(auto, unfolding(crate::specs::Rewritten::begins_at))]
-fn begins(sides: &[u64], at: usize) -> bool
-    ensures { result ≡ begins_at at sides.now }
-{
-    2 <= sides.len() && sides[0] == at as u64
+// A right side that is still to come: the entry where it begins, and the span of its Or.
+#[derive(Clone, Copy, Debug, PartialEq, Eq, Default)]
+struct Side {
+    at: usize,
+    span: u64,
 }
 
-// The top of the list, and where the next entry goes.
-#[derive(Clone, Copy, Debug, PartialEq, Eq)]
-struct Begun {
-    top: usize,
+// Puts the negation in front of entry `at`, if the nearest right side begins there, and answers where the next entry goes. The nearest is
+// the last that waits: they begin in that order, and at most one at an entry.
+fn begin_side(
+    out: &mut [u8],
+    n: usize,
     put: usize,
-}
-
-// Puts the negation in front of entry `at`, if a right side begins there, and takes that side off the list.
-#[tactic(auto, using(crate::proofs::Sides::begins_room, crate::proofs::Sides::rest_whole, crate::proofs::Sides::behind_two), unfolding(crate::specs::Rewritten::sides_after, crate::specs::Rewritten::negation, crate::specs::Rewritten::put_heads))]
-fn begin_side(out: &mut [u8], n: usize, put: usize, sides: &[u64], top: usize, at: usize) -> Begun
-    requires { (n ≤ 1024) × (put ≤ 4096) × (top ≤ length sides.now) }
-    ensures { SideBegun n put at sides.now top out.old result out.new }
+    sides: &mut ArrayVec<Side, 256>,
+    at: usize,
+) -> usize
+    requires { (n ≤ 1024) × (put ≤ 4096) }
+    ensures { SideBegun n put at sides.old.items out.old result sides.new.items out.new }
 {
-    let waiting = &sides[top..];
-    if begins(waiting, at) {
-        put_head(out, n, put, code::NOT, waiting[1]);
-        return Begun {
-            top: top + 2,
-            put: put + 1,
-        };
+    let Some(&side) = sides.as_slice().last() else {
+        return put;
+    };
+    if side.at != at {
+        return put;
     }
-    Begun { top, put }
+    sides.pop();
+    put_head(out, n, put, code::NOT, side.span);
+    put + 1
 }
 
 // Where the right side of an Or begins whose left side stands at a place. At most 21 Ors stand on a path, since each weighs 3 in the
@@ -92,49 +89,37 @@ fn right_side(tape: &Tape, left: Place) -> usize
     p.at
 }
 
-// Adds the right side that an entry brings, if it is an Or, and answers the new top. Its left side stands at `next`.
-#[tactic(auto, using(crate::proofs::Sides::side_stored), unfolding(crate::specs::Rewritten::sides_with, format::specs::Limits::weigh))]
-fn add_side(sides: &mut [u64], top: usize, tape: &Tape, code: u8, value: u64, next: Place) -> usize
-    requires { (code ≡ 2 → 2 ≤ top) × (top ≤ length sides.old) }
-    ensures { SideAdded tape.now.bytes.now tape.now.layout code value next sides.old top result sides.new }
+// Adds the right side that an entry brings, if it is an Or. Its left side stands at `next`.
+fn add_side(sides: &mut ArrayVec<Side, 256>, tape: &Tape, code: u8, value: u64, next: Place)
+    requires { code ≡ 2 → array_vec_len sides.old < 256 }
+    ensures { SideAdded tape.now.bytes.now tape.now.layout code value next sides.old.items sides.new.items }
 {
-    if code != code::OR {
-        return top;
+    if code == code::OR {
+        sides.push(Side {
+            at: right_side(tape, next),
+            span: value,
+        });
     }
-    let right = right_side(tape, next);
-    sides[top - 1] = value;
-    sides[top - 2] = right as u64;
-    top - 2
 }
 
-// Puts codes and values of what the entries of a layout become. `sides` has room for two numbers of each Or.
+// Puts codes and values of what the entries of a layout become. Each Or becomes four entries, so 1,024 entries come of 256 Ors at the most.
 #[tactic(auto, using(crate::proofs::Among::or_left), unfolding(crate::specs::Rewritten::heads_from, crate::specs::Rewritten::put_heads))]
-fn put_heads(out: &mut [u8], n: usize, sides: &mut [u64], held: &HeldTape)
-    requires { (n ≤ 1024) × (2 * ors_from held.now.tape.bytes.now held.now.tape.layout 0 ≤ length sides.old) }
-    ensures { out.new ≡ put_heads n 0 (heads_from held.now.tape.bytes.now held.now.tape.layout held.now.tape.layout.entries 0 0 []) out.old }
-{
-    let tape = &held.tape;
-    let mut text = 0;
-    let mut top = sides.len();
-    let mut put = 0;
-    for at in 0..tape.layout.entries {
-        let begun = begin_side(out, n, put, sides, top, at);
-        let code = held.code_at(at);
-        let value = held.value_at(at);
-        text = text_behind(tape.layout.size, text, text_width(code, value));
-        put = put_entry(out, n, begun.put, code, value);
-        let next = Place { at: at + 1, text };
-        top = add_side(sides, begun.top, tape, code, value, next);
-    }
-}
-
-// Each Or becomes four entries, so 1,024 entries come of 256 Ors at the most.
 fn put_all(out: &mut [u8], n: usize, held: &HeldTape)
     requires { (n ≤ 1024) × (ors_from held.now.tape.bytes.now held.now.tape.layout 0 ≤ 256) }
     ensures { out.new ≡ put_heads n 0 (heads_from held.now.tape.bytes.now held.now.tape.layout held.now.tape.layout.entries 0 0 []) out.old }
 {
-    let mut sides = [0u64; 512];
-    put_heads(out, n, &mut sides, held);
+    let tape = &held.tape;
+    let mut sides = ArrayVec::<Side, 256>::new();
+    let mut text = 0;
+    let mut put = 0;
+    for at in 0..tape.layout.entries {
+        put = begin_side(out, n, put, &mut sides, at);
+        let code = held.code_at(at);
+        let value = held.value_at(at);
+        text = text_behind(tape.layout.size, text, text_width(code, value));
+        put = put_entry(out, n, put, code, value);
+        add_side(&mut sides, tape, code, value, Place { at: at + 1, text });
+    }
 }
 
 // Writes sizes, codes and values, and the text.

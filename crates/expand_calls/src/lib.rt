@@ -28,7 +28,8 @@ fn resolve(x: &Expansion, call: Heading) -> Option<Macro>
     macro_from(&x.registry.tape, head, params, end)
 }
 
-// 30, 31 or 32, unless the call names a condition macro.
+// 30, 31 or 32, unless the call names a condition macro. It stands beside `value_macro`, since their refusals are others: 32 or 33, and
+// 31 in other words.
 #[tactic(auto, unfolding(crate::specs::Calls::condition_macro_in))]
 pub fn condition_macro(x: &Expansion, call: Heading) -> Result<Macro, Refused>
     ensures { result ≡ condition_macro_in (reads_of x.now) call }
@@ -89,8 +90,8 @@ pub fn level_above(out: Writer) -> Writer
     empty(out.base)
 }
 
-// The substitution of the call that stands in the cursor's area, into the area at the start of the slice that `made` has. Its arguments stand behind its 54, its
-// name and its list.
+// The substitution of the call that stands in the cursor's area, into the area at the start of the slice that `made` has. Its arguments
+// stand behind its 54, its name and its list.
 #[tactic(auto, unfolding(crate::specs::Calls::apply_in))]
 fn apply(
     x: &Expansion,

@@ -1,7 +1,7 @@
 // What an expansion reads, and the condition's own entries in its output.
-ghost use Rattle.std.specs.Prelude.{◌≡◌, Ok, get_or};
-ghost use Rattle.walk_state.specs.Writing.{Walks, Moves, state_at, going_at, came_to};
-ghost use Rattle.expand_calls.specs.Output.{copy_own_in, copy_own_after_in, shape_in, refold_in};
+ghost use Rattle.std.specs.Prelude.{◌≡◌, get_or};
+ghost use Rattle.walk_state.specs.Writing.{Walks, going_at, came_to};
+ghost use Rattle.expand_calls.specs.Output.{copy_own_after_in, shape_in, refold_in};
 ghost use Rattle.tape.specs.Scan.{skip_at};
 ghost use Rattle.walk_state.specs.Reading.{passed_in};
 
@@ -11,15 +11,15 @@ use messages::Refused;
 use nodes::{Refusal, entry, expect};
 use registry::Index;
 use subst_places::refine::fold_refine;
-use subst_state::run::copy;
+use subst_state::run::copy_to;
 use tape::layout::{Place, Tape};
 use tape::scan::skip;
 use walk_state::writing::Cursor;
 
 // The registry with the rows of its definitions, the condition's tape, the budget's limit, and the file number.
 #[derive(Clone, Copy, Debug)]
-pub struct Expansion<'a> {
-    pub registry: Index<'a>,
+pub struct Expansion<'a, 'b> {
+    pub registry: Index<'a, 'b>,
     pub condition: Tape<'a>,
     pub limit: u32,
     pub file: u16,
@@ -33,26 +33,9 @@ pub fn past_all(cond: &Tape, p: Place, sort: u64) -> Result<Place, Refused>
     Ok(skip(cond, p, sort).ok_or(Refusal::MALFORMED)?)
 }
 
-// Appends the condition's own entries up to a place.
-#[tactic(auto, unfolding(crate::specs::Output::copy_own_in))]
-pub fn copy_to(cond: &Tape, c: &mut Cursor, next: Place)
-    ensures { Moves c.old c.new (copy_own_in cond.now.bytes.now cond.now.layout (state_at c.old) (Ok next) c.old.bytes.now) }
-{
-    copy(cond, cond, true, c.place, next, c);
-    c.place = next;
-}
-
-// The same up to the place where a check came; or hands its refusal on.
-#[tactic(auto, unfolding(crate::specs::Output::copy_own_in))]
-pub fn copy_own(cond: &Tape, c: &mut Cursor, found: Result<Place, Refused>) -> Result<(), Refused>
-    ensures { Walks c.old c.new result (copy_own_in cond.now.bytes.now cond.now.layout (state_at c.old) found c.old.bytes.now) }
-{
-    copy_to(cond, c, found?);
-    Ok(())
-}
-
-// The same behind a walk. A refusal of the check comes before one of the walk, with what was charged before it.
-#[tactic(auto, unfolding(crate::specs::Output::copy_own_after_in))]
+// Appends the condition's own entries up to the place where a check came, behind a walk. A refusal of the check comes before one of the
+// walk, with what was charged before it.
+#[tactic(auto, unfolding(crate::specs::Output::copy_own_in, crate::specs::Output::copy_own_after_in))]
 pub fn copy_own_after(
     cond: &Tape,
     c: &mut Cursor,
@@ -63,9 +46,10 @@ pub fn copy_own_after(
     ensures { Walks c.old c.new result (copy_own_after_in cond.now.bytes.now cond.now.layout found charged (came_to walked c.old)) }
 {
     match found {
-        Ok(_) => {
+        Ok(next) => {
             walked?;
-            copy_own(cond, c, found)
+            copy_to(cond, c, next);
+            Ok(())
         }
         Err(f) => {
             c.charged = charged;
@@ -75,7 +59,7 @@ pub fn copy_own_after(
 }
 
 // The code of the condition that the one at a place came out as. It is read from the input, since a full output has it no more; a
-// call's outcome stands at the start of the result buffer.
+// call's outcome stands at the start of the result buffer. The one of `subst_places` reads a body, where a `?` comes out as an argument.
 #[tactic(auto, unfolding(crate::specs::Output::shape_in))]
 fn shape_of(cond: &Tape, res: &[u8], p: Place) -> u8
     ensures { result ≡ shape_in cond.now.bytes.now cond.now.layout res.now p }
@@ -104,7 +88,7 @@ fn first_code(res: &[u8]) -> u8
 
 // The fields behind a base that was written at entry `base`, and their fold. They are not inspected. `p` is where the base stands in
 // the condition.
-#[tactic(auto, using(crate::proofs::Steps::fold_hands_on), unfolding(crate::specs::Output::refold_in, nodes::specs::Node::span_of, nodes::specs::Node::refusal_of))]
+#[tactic(auto, using(crate::proofs::Steps::fold_hands_on), unfolding(crate::specs::Output::refold_in, crate::specs::Output::copy_own_in, walk_state::specs::Reading::passed_in, walk_state::specs::Reading::refused_in, nodes::specs::Node::span_of, nodes::specs::Node::refusal_of))]
 pub fn refold(
     cond: &Tape,
     c: &mut Cursor,
@@ -116,8 +100,8 @@ pub fn refold(
     ensures { Walks c.old c.new result (refold_in cond.now.bytes.now cond.now.layout res.now own base p (going_at c.old)) }
 {
     let (count, first) = expect(cond, c.place, code::LIST).ok_or(Refusal::MALFORMED)?;
-    let end = past_all(cond, c.place, FIELDS);
+    let end = past_all(cond, c.place, FIELDS)?;
     c.place = first;
-    copy_own(cond, c, end)?;
+    copy_to(cond, c, end);
     fold_refine(c, base, count, own, shape_of(cond, res, p))
 }

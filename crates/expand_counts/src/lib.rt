@@ -1,5 +1,6 @@
 // The calls of a condition that expansion enters, counted for the definitions that they name. One loop over the entries: a call is a
-// 54 that stands in no field and in no array of an operand. Those are passed over; of all else nothing but the code and the length of its text is looked at.
+// 54 that stands in no field and in no array of an operand. Those are passed over; of all else nothing but the code and the length of
+// its text is looked at.
 #![tactic(auto)]
 
 ghost use Rattle.std.specs.Prelude.{◌≡◌, ◌+◌, ◌≤◌};
@@ -154,7 +155,8 @@ fn count_entry(index: &Index, tape: &Tape, p: Place, w: Passing, code: u8, count
     }
 }
 
-// The calls among the entries, up to a text that runs past the end.
+// The calls among the entries, up to a text that runs past the end. Code, value and text of an entry stand in three sections, so an index is
+// what they share.
 #[tactic(auto, using(crate::proofs::Steps::entries_start, crate::proofs::Steps::entry_taken, crate::proofs::Steps::entry_long, crate::proofs::Steps::entries_done))]
 fn count_entries(index: &Index, held: &HeldTape, counts: &mut [u32])
     ensures { counts.new ≡ count_from index.now.tape.bytes.now index.now.tape.layout index.now.rows.now held.now.tape.bytes.now held.now.tape.layout held.now.tape.layout.entries origin (passing 0 0) counts.old }

@@ -10,7 +10,7 @@ ghost use Rattle.subst_places.specs.Parameters.{behind_in};
 ghost use Rattle.walk_state.specs.Reading.{passed_in};
 ghost use Rattle.expand_walk.specs.Walkers.{walkers, stray_in, condition_node_in, both_in, inner_in, since_in, refine_in, operand_node_in, stray_term_in, sides_in, to_condition_in, to_value_in, called_in, items_in, arg_in, condition_arg_in};
 
-use expand_calls::output::{Expansion, copy_own, copy_own_after, copy_to, past_all, refold};
+use expand_calls::output::{Expansion, copy_own_after, past_all, refold};
 use expand_calls::{calls_value, condition_macro, level_above, outcome, value_macro};
 use expand_stray::{
     check_concrete_binder, check_concrete_binders, check_concrete_fields, check_concrete_slot,
@@ -24,8 +24,9 @@ use nodes::{
     read_argument, read_condition, read_heading, read_term,
 };
 use subst_call::{Macro, wrong_count};
-use subst_places::places::behind;
+use subst_state::run::copy_to;
 use tape::layout::{Place, Tape};
+use walk_state::reading::behind;
 use walk_state::writing::Cursor;
 
 // The Rust's `expand_temporal_condition`.
@@ -68,7 +69,8 @@ fn condition(
         | ConditionNode::Exists(_) => inner(n, x, c, res, found),
         ConditionNode::Since(span) => since(n, x, c, res, span, next),
         ConditionNode::Predicate(_) | ConditionNode::Tp(_) | ConditionNode::SigilRef(_, _, _) => {
-            copy_own(&x.condition, c, found)
+            copy_to(&x.condition, c, found?);
+            Ok(())
         }
         ConditionNode::Comparison(_) => sides(n, x, c, res, next),
         ConditionNode::Call(_) => expand_call_to_condition(n, x, c, res, next),
@@ -102,8 +104,9 @@ fn check_stray(n: usize, cond: &Tape, node: ConditionNode, next: Place) -> Resul
     }
 }
 
+// The two conditions of an And or an Or.
 #[cycle(walk)]
-#[tactic(auto, using(crate::proofs::Walking::hands_on_condition), unfolding(crate::specs::Walkers::both_in))]
+#[tactic(auto, using(crate::proofs::Walking::hands_on_condition), unfolding(crate::specs::Walkers::both_in, expand_calls::specs::Output::copy_own_in))]
 fn both(n: usize, x: &Expansion, c: &mut Cursor, res: &mut [u8], next: Place) -> Result<(), Refused>
     ensures { Expands c.old c.new result res.new (both_in (reads_of x.now) (walkers (reads_of x.now) n) (one.state_at c.old) next c.old.bytes.now res.old) }
 {
@@ -114,7 +117,7 @@ fn both(n: usize, x: &Expansion, c: &mut Cursor, res: &mut [u8], next: Place) ->
 
 // The one condition behind what was looked at.
 #[cycle(walk)]
-#[tactic(auto, using(crate::proofs::Walking::hands_on_condition), unfolding(crate::specs::Walkers::inner_in))]
+#[tactic(auto, using(crate::proofs::Walking::hands_on_condition), unfolding(crate::specs::Walkers::inner_in, expand_calls::specs::Output::copy_own_in))]
 fn inner(
     n: usize,
     x: &Expansion,
@@ -124,13 +127,13 @@ fn inner(
 ) -> Result<(), Refused>
     ensures { Expands c.old c.new result res.new (inner_in (reads_of x.now) (walkers (reads_of x.now) n) (one.state_at c.old) found c.old.bytes.now res.old) }
 {
-    copy_own(&x.condition, c, found)?;
+    copy_to(&x.condition, c, found?);
     expand_condition(n, x, c, res)
 }
 
 // The tape has left, within, right. A refusal of the within comes before one of the left side, with what was charged before both.
 #[cycle(walk)]
-#[tactic(auto, using(crate::proofs::Walking::hands_on_condition), unfolding(crate::specs::Walkers::since_in))]
+#[tactic(auto, using(crate::proofs::Walking::hands_on_condition), unfolding(crate::specs::Walkers::since_in, expand_calls::specs::Output::copy_own_in))]
 fn since(
     n: usize,
     x: &Expansion,
@@ -150,7 +153,7 @@ fn since(
 }
 
 // The within of a Since, behind its left side.
-#[tactic(auto, unfolding(expand_stray::specs::Concrete::concrete_within_in, walk_state::specs::Reading::passed_in, walk_state::specs::Reading::refused_in, nodes::specs::Node::span_of))]
+#[tactic(auto, unfolding(expand_stray::specs::Concrete::concrete_within_in, subst_places::specs::Parameters::behind_in, walk_state::specs::Reading::behind_in, walk_state::specs::Reading::passed_in))]
 fn within_behind(
     cond: &Tape,
     span: u64,
@@ -160,13 +163,13 @@ fn within_behind(
 ) -> Result<Place, Refused>
     ensures { result ≡ concrete_within_in cond.now.bytes.now cond.now.layout span (passed_in (behind_in cond.now.bytes.now cond.now.layout left (one.came_to walked.now c.now).walk)) }
 {
-    let p = behind(cond, left, walked, c).ok_or(Refusal::MALFORMED)?;
+    let p = behind(cond, left, &walked.and(Ok(c.place)))?;
     check_concrete_within(cond, span, p)
 }
 
 // The two sides of a comparison or of arithmetic.
 #[cycle(walk)]
-#[tactic(auto, using(crate::proofs::Walking::hands_on_operand), unfolding(crate::specs::Walkers::sides_in))]
+#[tactic(auto, using(crate::proofs::Walking::hands_on_operand), unfolding(crate::specs::Walkers::sides_in, expand_calls::specs::Output::copy_own_in))]
 fn sides(
     n: usize,
     x: &Expansion,
@@ -272,8 +275,9 @@ fn operand(
         | TermNode::Array(_)
         | TermNode::Var(_)
         | TermNode::Plain => {
-            let found = check_stray_term(&x.condition, node, c.place, next);
-            copy_own(&x.condition, c, found)
+            let end = check_stray_term(&x.condition, node, c.place, next)?;
+            copy_to(&x.condition, c, end);
+            Ok(())
         }
     }
 }
@@ -291,7 +295,8 @@ fn check_stray_term(cond: &Tape, node: TermNode, p: Place, next: Place) -> Resul
     }
 }
 
-// The Rust's `expand_temporal_call_to_condition`: the outcome takes the place of the 11, with spans of its own.
+// The Rust's `expand_temporal_call_to_condition`: the outcome takes the place of the 11, with spans of its own. This and
+// `expand_call_to_value` are three lines each over `called`; one function would be told which macro to ask for, for as many.
 #[cycle(walk)]
 #[tactic(auto, unfolding(crate::specs::Walkers::to_condition_in, nodes::specs::Node::heading_at, nodes::specs::Node::span_of, nodes::specs::Node::refusal_of))]
 fn expand_call_to_condition(
@@ -310,7 +315,7 @@ fn expand_call_to_condition(
 
 // A call of a macro of the right kind: 34; the call with its arguments at the next level; what it becomes.
 #[cycle(walk)]
-#[tactic(auto, using(crate::proofs::Walking::outcome_hands_on), unfolding(crate::specs::Walkers::called_in))]
+#[tactic(auto, using(crate::proofs::Walking::outcome_hands_on), unfolding(crate::specs::Walkers::called_in, expand_calls::specs::Output::copy_own_in))]
 fn called(
     n: usize,
     x: &Expansion,
@@ -353,7 +358,7 @@ fn expand_call_args(
 }
 
 #[cycle(walk)]
-#[tactic(auto, using(crate::proofs::Walking::hands_on_operand), unfolding(crate::specs::Walkers::arg_in, nodes::specs::Node::argument_at, nodes::specs::Node::span_of, nodes::specs::Node::refusal_of))]
+#[tactic(auto, using(crate::proofs::Walking::hands_on_operand), unfolding(crate::specs::Walkers::arg_in, expand_calls::specs::Output::copy_own_in, nodes::specs::Node::argument_at, nodes::specs::Node::span_of, nodes::specs::Node::refusal_of))]
 fn arg(n: usize, x: &Expansion, c: &mut Cursor, res: &mut [u8]) -> Result<(), Refused>
     ensures { Expands c.old c.new result res.new (arg_in (reads_of x.now) (walkers (reads_of x.now) n) (going_at c.old res.old)) }
 {
@@ -365,8 +370,9 @@ fn arg(n: usize, x: &Expansion, c: &mut Cursor, res: &mut [u8]) -> Result<(), Re
             expand_operand(n, x, c, res)
         }
         ArgNode::Within => {
-            let end = past_all(&x.condition, c.place, ARGUMENT);
-            copy_own(&x.condition, c, end)
+            let end = past_all(&x.condition, c.place, ARGUMENT)?;
+            copy_to(&x.condition, c, end);
+            Ok(())
         }
     }
 }

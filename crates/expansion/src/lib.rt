@@ -20,7 +20,7 @@ use expand_walk::expand_condition;
 use grammar::codes::{CONDITION, DEFINITIONS};
 use messages::Refused;
 use registry::counts::Counts;
-use registry::{Index, Row, index};
+use registry::{Index, Row};
 use subst_call::refuse_too_large;
 use tape::layout::Tape;
 use walk_state::writing::Cursor;
@@ -72,13 +72,9 @@ fn expand_tapes(
     ensures walked { Expands c.old c.new result res.new (named_in registry.now.bytes.now registry.now.layout 255 condition.now.bytes.now condition.now.layout limit file c.old.bytes.now res.old) }
     ensures counted { counts.new ≡ after_walk (came_to result c.new res.new).walk (counted_in registry.now.bytes.now registry.now.layout (index_at registry.now.bytes.now registry.now.layout 255) condition.now.bytes.now condition.now.layout counts.old) counts.old }
 {
-    let mut rows = [Row::EMPTY; 255];
-    let count = index(registry, &mut rows);
+    let mut table = [Row::EMPTY; 255];
     let x = Expansion {
-        registry: Index {
-            tape: *registry,
-            rows: &rows[..count],
-        },
+        registry: Index::new(registry, &mut table),
         condition: *condition,
         limit,
         file,
@@ -107,7 +103,8 @@ fn expand_in<'a>(
     answer_walk(registry, condition, walked, &mut c, res, message)
 }
 
-// The same over the rewritten tapes, for which there is room here: most tapes have no Or.
+// The same over the rewritten tapes, for which there is room here: most tapes have no Or, and only those with one pay for it. Tried with a
+// closure, which writes to lent buffers: the caller's goal stays open.
 fn expand_rewritten(
     registry: &Tape,
     condition: &Tape,

@@ -1,5 +1,5 @@
--- A count of the subtrees that are still to come keeps step with a scan's stack: as many as the waiting sorts say. Lists whose items are one
--- subtree each wait only on top of it, or behind one entry: that of texts behind a span, that of arguments behind a text.
+-- A count of the subtrees that are still to come keeps step with a scan's stack: as many as the waiting sorts say. Lists whose items are
+-- one subtree each wait only on top of it, or behind one entry: that of texts behind a span, that of arguments behind a text.
 -- Assumes nothing.
 use Prim.Native.Nat.{ℕ, zero, suc, ◌+◌, ◌-◌, ◌*◌, ◌%◌, ◌≤◌, ◌<◌}
 use mathlib.Core.Path.{◌≡◌, refl, ap, subst}
@@ -16,9 +16,9 @@ use Rattle.grammar.specs.Counts.{due_of, has_pairs, count_words, step_with}
 use Rattle.grammar.specs.Grammar.{Follows, once, each, sorts_of, span, text, texts, arguments}
 use Rattle.grammar.specs.Pick.{pick}
 use Rattle.grammar.specs.Waits.{counted}
-use Rattle.grammar.specs.Words.{temporal_words, sort_at, row_at, in_sort, text_mark, width_of, follows_in, follows_of}
+use Rattle.grammar.specs.Words.{temporal_grammar, sort_at, row_at, in_sort, text_mark, width_of, follows_in, follows_of}
 use Rattle.std.specs.Prelude.{Some}
-use Rattle.grammar.proofs.Marks.{everywhere, past_row, past_sort, same_below}
+use Rattle.grammar.proofs.Marks.{sort_of, everywhere, past_row, past_sort, same_below}
 use Rattle.grammar.proofs.Table.{every, at_both}
 
 -- ------------------------------------------------------------------ sorts that wait
@@ -103,19 +103,19 @@ single x (once (s ∷ ss)) = false
 single x (each s) = false
 
 abbrev following : ℕ → ℕ → Follows
-following n c = follows_of (follows_in (get_or temporal_words n 0) (row_at temporal_words c))
+following n c = follows_of (follows_in (sort_of n) (row_at temporal_grammar c))
 
 abbrev agree : ℕ → ℕ → Bool
 agree n c =
-    not (in_sort (get_or temporal_words n 0) c)
+    not (in_sort (sort_of n) c)
     || shaped n (get_or count_words c 0) (following n c)
     && pick (eqb n span || eqb n text) (single (get_or count_words c 0) (following n c)) true
 
 all_agree : T (every (λ (n : ℕ). every (agree n) 0 77) 0 32)
-unfolding temporal_words count_words follows_of
+unfolding temporal_grammar count_words follows_of
 all_agree = tt
 
-tables_agree : (n c : ℕ) → n < 32 → in_sort (get_or temporal_words n 0) c ≡ true → T (shaped n (get_or count_words c 0) (following n c)
+tables_agree : (n c : ℕ) → n < 32 → in_sort (sort_of n) c ≡ true → T (shaped n (get_or count_words c 0) (following n c)
     && pick (eqb n span || eqb n text) (single (get_or count_words c 0) (following n c)) true)
 tables_agree n c h i = go (dec_lt c 77)
   where
@@ -127,7 +127,7 @@ tables_agree n c h i = go (dec_lt c 77)
     let_in false e t = absurd (cc)
 
     go : Dec (c < 77) → T rest
-    go (yes g) = let_in (in_sort (get_or temporal_words n 0) c) i
+    go (yes g) = let_in (in_sort (sort_of n) c) i
         (at_both agree 32 77 all_agree n c h g)
     go (no g) = absurd (past_sort n c h (omega arith) (from_true i))
 
@@ -135,11 +135,11 @@ tables_agree n c h i = go (dec_lt c 77)
 abbrev text_count : ℕ → Bool
 text_count x = leb 8 x && ltb x 16
 
-text_counts : (c : ℕ) → text_mark (row_at temporal_words c) ≡ text_count (get_or count_words c 0)
-unfolding temporal_words count_words
+text_counts : (c : ℕ) → text_mark (row_at temporal_grammar c) ≡ text_count (get_or count_words c 0)
+unfolding temporal_grammar count_words
 text_counts =
     everywhere
-    (same_below (λ (k : ℕ). text_mark (row_at temporal_words k)) (λ (k : ℕ). text_count (get_or count_words k 0)) tt)
+    (same_below (λ (k : ℕ). text_mark (row_at temporal_grammar k)) (λ (k : ℕ). text_count (get_or count_words k 0)) tt)
     (λ c h. rw (past_row c h, past_count c h))
   where
     past_count : (c : ℕ) → 77 ≤ c → get_or count_words c 0 ≡ 0
@@ -315,10 +315,10 @@ module _ (left room c v : ℕ) where
   number = get_or count_words c 0
 
   -- an entry that a scan lets in at the first waiting sort
-  pub step_counts : {pairs : Bool} {due s : ℕ} {ss : List ℕ} → Counts pairs due (s ∷ ss) → in_sort (sort_at temporal_words s) c ≡ true
-      → counted (follows_of (follows_in (sort_at temporal_words s) (row_at temporal_words c))) v ≤ left
+  pub step_counts : {pairs : Bool} {due s : ℕ} {ss : List ℕ} → Counts pairs due (s ∷ ss) → in_sort (sort_at temporal_grammar s) c ≡ true
+      → counted (follows_of (follows_in (sort_at temporal_grammar s) (row_at temporal_grammar c))) v ≤ left
       → text_width (text_count number) v ≤ room
-      → Steps left room v number pairs due (sorts_of (follows_of (follows_in (sort_at temporal_words s) (row_at temporal_words c))) v ++ ss)
+      → Steps left room v number pairs due (sorts_of (follows_of (follows_in (sort_at temporal_grammar s) (row_at temporal_grammar c))) v ++ ss)
   step_counts {s = s} {ss} (plain a d) i fits wide =
       let k = and_left (clear s) _ a in
       let h = ltb→lt s 32 (and_left (ltb s 32) _ k) in
@@ -360,5 +360,5 @@ some_waits (listed h p a d) e = omega arith
 some_waits (opened o a d) e = omega arith
 
 -- a text is as long as the scan's table says
-pub width_counts : (c v : ℕ) → width_of (row_at temporal_words c) v ≡ text_width (text_count (get_or count_words c 0)) v
+pub width_counts : (c v : ℕ) → width_of (row_at temporal_grammar c) v ≡ text_width (text_count (get_or count_words c 0)) v
 width_counts c v = ap (λ (b : Bool). text_width b v) (text_counts c)

@@ -1,5 +1,5 @@
--- How deep a tree of document 01's table can be, by its codes alone: codes have weights and sorts have rooms, and what stands at a place goes no
--- deeper than its sort's room and the weights of its codes together. Whether weights and rooms are such is computed, code by code.
+-- How deep a tree of document 01's table can be, by its codes alone: codes have weights and sorts have rooms, and what stands at a place
+-- goes no deeper than its sort's room and the weights of its codes together. Whether weights and rooms are such is computed, code by code.
 -- Assumes nothing.
 use Prim.Native.Nat.{ℕ, zero, suc, ◌+◌, ◌≤◌, ◌<◌, ◌%◌}
 use mathlib.Core.Path.{◌≡◌}
@@ -11,8 +11,8 @@ use lib.ListN.{get_or, replicate}
 use Rattle.format.proofs.All.{All, all_nil, all_cons}
 use Rattle.format.proofs.Tests.{and_left, and_right, from_true}
 use Rattle.grammar.specs.Grammar.{Follows, once, each, sorts_of}
-use Rattle.grammar.specs.Words.{temporal_words, sort_at, row_at, in_sort, nesting_of, follows_in, follows_of}
-use Rattle.grammar.proofs.Marks.{past_sort, everywhere}
+use Rattle.grammar.specs.Words.{temporal_grammar, sort_at, row_at, in_sort, nesting_of, follows_in, follows_of}
+use Rattle.grammar.proofs.Marks.{sort_of, past_sort, everywhere}
 use Rattle.grammar.proofs.Table.{every, at_both}
 
 -- the room of a sort
@@ -20,7 +20,7 @@ abbrev pub room_of : List ℕ → ℕ → ℕ
 room_of rooms s = get_or rooms (s % 32) 0
 
 abbrev nesting_in : ℕ → ℕ
-nesting_in c = nesting_of false (row_at temporal_words c)
+nesting_in c = nesting_of false (row_at temporal_grammar c)
 
 -- below n nodes the sorts have no more room than `most`
 abbrev all_within : (n most : ℕ) → List ℕ → List ℕ → Bool
@@ -49,36 +49,36 @@ all_within_lem n most rooms (each s) v t = go v
 -- of a code in the sort with the number n: the sort's room and the code's weight are enough for it and for what follows
 abbrev enough : (ℕ → ℕ) → List ℕ → ℕ → ℕ → Bool
 enough weight rooms n c =
-    not (in_sort (get_or temporal_words n 0) c)
+    not (in_sort (sort_of n) c)
     || (leb (nesting_in c) (get_or rooms n 0 + weight c)
-    && within (nesting_in c) (get_or rooms n 0 + weight c) rooms (follows_of (follows_in (get_or temporal_words n 0) (row_at temporal_words c))))
+    && within (nesting_in c) (get_or rooms n 0 + weight c) rooms (follows_of (follows_in (sort_of n) (row_at temporal_grammar c))))
 
 abbrev pub is_enough : (ℕ → ℕ) → List ℕ → Bool
 is_enough weight rooms = every (λ (n : ℕ). every (enough weight rooms n) 0 77) 0 32
 
 -- what it says of a code that stands at a place of a sort
 pub record Bounded (weight : ℕ → ℕ) (rooms : List ℕ) (s c : ℕ) : Type 0 where
-  pub itself : nesting_of false (row_at temporal_words c) ≤ room_of rooms s + weight c
+  pub itself : nesting_of false (row_at temporal_grammar c) ≤ room_of rooms s + weight c
   pub others : (v : ℕ)
-      → All (λ (k : ℕ). nesting_of false (row_at temporal_words c) + room_of rooms k ≤ room_of rooms s + weight c)
-      (sorts_of (follows_of (follows_in (sort_at temporal_words s) (row_at temporal_words c))) v)
+      → All (λ (k : ℕ). nesting_of false (row_at temporal_grammar c) + room_of rooms k ≤ room_of rooms s + weight c)
+      (sorts_of (follows_of (follows_in (sort_at temporal_grammar s) (row_at temporal_grammar c))) v)
 
 pub bounded : (weight : ℕ → ℕ) (rooms : List ℕ) → T (is_enough weight rooms)
-    → (s c : ℕ) → in_sort (sort_at temporal_words s) c ≡ true → Bounded weight rooms s c
+    → (s c : ℕ) → in_sort (sort_at temporal_grammar s) c ≡ true → Bounded weight rooms s c
 bounded weight rooms all s =
-    everywhere {P = λ (c : ℕ). in_sort (sort_at temporal_words s) c ≡ true → Bounded weight rooms s c} inside
+    everywhere {P = λ (c : ℕ). in_sort (sort_at temporal_grammar s) c ≡ true → Bounded weight rooms s c} inside
     (λ c h i. absurd (past_sort (s % 32) c (omega arith) h (from_true i)))
   where
-    inside : (c : ℕ) → c < 77 → in_sort (sort_at temporal_words s) c ≡ true → Bounded weight rooms s c
+    inside : (c : ℕ) → c < 77 → in_sort (sort_at temporal_grammar s) c ≡ true → Bounded weight rooms s c
     inside c h i =
-        go (in_sort (sort_at temporal_words s) c) i
+        go (in_sort (sort_at temporal_grammar s) c) i
         (at_both (enough weight rooms) 32 77 all (s % 32) c (omega arith) h)
       where
         low : Bool
         low = leb (nesting_in c) (room_of rooms s + weight c)
 
         after : Follows
-        after = follows_of (follows_in (sort_at temporal_words s) (row_at temporal_words c))
+        after = follows_of (follows_in (sort_at temporal_grammar s) (row_at temporal_grammar c))
 
         go : (i : Bool) → i ≡ true → T (not i || (low && within (nesting_in c) (room_of rooms s + weight c) rooms after)) → Bounded weight rooms s c
         go false e t = absurd (cc)

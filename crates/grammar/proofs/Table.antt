@@ -1,5 +1,4 @@
--- A test that the prover computes at each number of a range, and the rule that it gives there; and a table of numbers that is computed from a
--- table of records.
+-- A test that the prover computes at each number of a range, and the rule that it gives there.
 -- Assumes nothing.
 use mathlib.Core.Path.{◌≡◌, refl, subst}
 use mathlib.Core.Bool.{Bool, true, false, ◌&&◌}
@@ -36,8 +35,3 @@ same_eq true true t = refl
 same_eq true false t = absurd t
 same_eq false true t = absurd t
 same_eq false false t = refl
-
--- a test has one answer at each number of a range
-pub decided : (f : ℕ → Bool) (b : Bool) (low n : ℕ) → T (every (λ (k : ℕ). same b (f k)) low n)
-    → (k : ℕ) → low ≤ k → k < low + n → b ≡ f k
-decided f b low n t k h₁ h₂ = same_eq b (f k) (at (λ (m : ℕ). same b (f m)) low n t k h₁ h₂)

@@ -95,8 +95,8 @@ pub record Range : Type 0 where
 abbrev pub range : ℕ → ℕ → Range
 range low high = record { low = low; high = high }
 
--- A sort: the codes that may stand at a place of it, two ranges at the most, the lower first; what follows there, where the sort says it and not the code;
--- and whether it is a list of at most 16.
+-- A sort: the codes that may stand at a place of it, two ranges at the most, the lower first; what follows there, where the sort says it
+-- and not the code; and whether it is a list of at most 16.
 pub record Sort : Type 0 where
   pub ranges : List Range
   pub own : Follows

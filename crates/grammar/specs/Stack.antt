@@ -1,48 +1,32 @@
 -- The stack of a scan in memory.
 -- Assumes nothing.
-use Rattle.std.specs.Prelude.{ℕ, ◌+◌, ◌/◌, ◌%◌, ◌≤◌, ◌<◌, ◌≡◌, List, [], ◌∷◌, ◌++◌, drop}
-use Rattle.grammar.specs.Words.{sorts_in, follows_of}
-use Rattle.grammar.specs.Waits.{Wait, wait, waits, counted}
+use Rattle.std.specs.Prelude.{ℕ, ◌%◌, List, [], ◌∷◌, ◌++◌, Bool, true, false, Option, Some, None}
+use Rattle.grammar.specs.Words.{sorts_in}
+use Rattle.grammar.specs.Waits.{Wait, wait, waits}
 use Rattle.grammar.specs.declared.stack.Cell.{Cell}
 
 abbrev pub cell : ℕ → ℕ → ℕ → ℕ → Cell
 cell word more nesting calls = record { word = word; more = more; nesting = nesting; calls = calls }
 
--- a cell in one number
-abbrev pub cell_of : ℕ → Cell
-cell_of w = cell (w % 0x40000000) (w / 0x40000000 % 2048) (w / 0x20000000000 % 128) (w / 0x1000000000000 % 8)
-
-pub record Fits (c : Cell) : Type 0 where
-  pub word_fits : c.word < 0x40000000
-  pub more_fits : c.more < 2048
-  pub nesting_fits : c.nesting < 128
-  pub calls_fits : c.calls < 8
-
 -- what a cell waits for
 unfoldable pub waits_of : Cell → List Wait
-waits_of c = waits c.nesting c.calls (sorts_in 5 c.word c.more)
+waits_of c = waits c.nesting c.calls (sorts_in 6 c.word c.more)
 
 -- what it waits for first
-abbrev pub wait_of : ℕ → Wait
-wait_of w = wait (w % 64) (w / 0x20000000000 % 128) (w / 0x1000000000000 % 8)
+abbrev pub wait_of : Cell → Wait
+wait_of c = wait (c.word % 64) c.nesting c.calls
 
--- what the cells from `top` on wait for
-abbrev pub waits_in : List ℕ → List Wait
-waits_in [] = []
-waits_in (w ∷ ws) = waits_of (cell_of w) ++ waits_in ws
+-- what a cell waits for, if there is one
+abbrev pub waits_by : Option Cell → List Wait
+waits_by None = []
+waits_by (Some c) = waits_of c
 
-abbrev pub stack_of : List ℕ → ℕ → List Wait
-stack_of s top = waits_in (drop top s)
+-- what is left of a cell, if anything is
+abbrev pub waits_left : Bool → Cell → List Wait
+waits_left true c = waits_of c
+waits_left false c = []
 
--- at most k cells more, after which the stack is st
-pub record Grown (top k : ℕ) (after : List ℕ) (r : ℕ) (st : List Wait) : Type 0 where
-  pub up : r ≤ top
-  pub most : top ≤ r + k
-  pub stack_is : stack_of after r ≡ st
-
--- what a cell may hold
-pub record Room (follows value nesting calls : ℕ) : Type 0 where
-  pub word_room : follows < 0x40000000
-  pub more_room : counted (follows_of follows) value < 2048
-  pub nesting_room : nesting < 128
-  pub calls_room : calls < 8
+-- what the cells of a stack wait for, of which the last comes first
+abbrev pub stack_of : List Cell → List Wait
+stack_of [] = []
+stack_of (c ∷ cs) = stack_of cs ++ waits_of c

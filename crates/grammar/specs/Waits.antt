@@ -2,7 +2,7 @@
 -- Assumes nothing.
 use Rattle.std.specs.Prelude.{ℕ, ◌+◌, min, List, [], ◌∷◌, Bool, not, ◌&&◌, ◌||◌, leb, ltb, eqb}
 use Rattle.grammar.specs.Grammar.{Follows, once, each, sorts_of}
-use Rattle.grammar.specs.Words.{sort_at, row_at, in_sort, is_few, values_of, nesting_of, calls_of, follows_in, follows_of, width_of, longest_of}
+use Rattle.grammar.specs.Words.{Rules, sort_at, row_at, in_sort, is_few, values_of, nesting_of, calls_of, follows_in, follows_of, width_of, longest_of}
 use Rattle.grammar.specs.declared.entry.Head.{Head}
 
 -- a sort that is waited for, below `nesting` nodes and `calls` calls
@@ -19,7 +19,7 @@ waits nesting calls [] = []
 waits nesting calls (s ∷ ss) = wait s nesting calls ∷ waits nesting calls ss
 
 -- an entry at a place of a sort, with what a table says of the two
-abbrev pub head_of : List ℕ → ℕ → ℕ → ℕ → Head
+abbrev pub head_of : Rules → ℕ → ℕ → ℕ → Head
 head_of g s code value =
     record {
       code = code;
@@ -65,7 +65,8 @@ deeper longest n e = min (n + nests_by longest e) 64
 abbrev pub passes : ℕ → ℕ → ℕ → Bool
 passes most n more = ltb most (n + more) && ltb 0 more
 
--- an entry passes a largest figure: nesting 64; a call inside the arguments of 3 others; of an input 16 in a short list, and the longest text
+-- an entry passes a largest figure: nesting 64; a call inside the arguments of 3 others; of an input 16 in a short list, and the longest
+-- text
 abbrev pub exceeds : ℕ → Wait → Head → Bool
 exceeds longest w e =
     passes 64 w.nesting (nests_by longest e)

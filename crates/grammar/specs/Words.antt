@@ -1,11 +1,27 @@
--- A table in one list of words, 32 sorts and then the codes: how it is written, and what is read there. Any list can be read; what lies past
--- its end is a sort of no code, or a code with nothing behind it.
+-- A table of sorts and codes: how it is written, and what is read there. Any table can be read; what lies past its end is a sort of no
+-- code, or a code with nothing behind it.
 -- Assumes nothing.
-use Rattle.std.specs.Prelude.{ℕ, zero, suc, ◌+◌, ◌-◌, ◌*◌, ◌/◌, ◌%◌, List, [], ◌∷◌, ◌++◌, map, Bool, ◌&&◌, ◌||◌, leb, ltb, eqb, length, get_or, replicate}
+use Rattle.std.specs.Prelude.{ℕ, zero, suc, ◌+◌, ◌-◌, ◌*◌, ◌/◌, ◌%◌, List, [], ◌∷◌, ◌++◌, map, Bool, true, false, ◌&&◌, ◌||◌, leb, ltb, eqb, length, get_or, replicate}
 use Rattle.format.specs.Tape.{text_width}
-use Rattle.grammar.specs.Grammar.{Range, Follows, once, each, Sort, sorts, Mark, Row, rows}
+use Rattle.grammar.specs.Grammar.{Range, Follows, once, each, Sort, sorts, no_sort, Mark, Row, any, row, rows}
 use Rattle.grammar.specs.Provider as provider
 use Rattle.grammar.specs.Pick.{pick}
+use Rattle.grammar.specs.declared.rules.SortRule.{SortRule}
+use Rattle.grammar.specs.declared.rules.CodeRule.{CodeRule}
+use Rattle.grammar.specs.declared.rules.TextRule.{TextRule}
+use Rattle.grammar.specs.declared.rules.TextRule.TheVariants.{NoText, Short, Long, Name}
+use Rattle.grammar.specs.declared.rules.NodeRule.{NodeRule}
+use Rattle.grammar.specs.declared.rules.NodeRule.TheVariants.{NoNode, One, Rewritten, TwoInInput}
+use Rattle.grammar.specs.declared.rules.Grammar.{Grammar}
+
+-- the sorts and the codes by their numbers
+pub record Rules : Type 0 where
+  pub sorts : List SortRule
+  pub codes : List CodeRule
+
+-- as a table lends them
+abbrev pub rules : Grammar → Rules
+rules g = record { sorts = g.sorts.now; codes = g.codes.now }
 
 -- ------------------------------------------------------------------ how it is written
 
@@ -18,80 +34,148 @@ abbrev pub follows_word : Follows → ℕ
 follows_word (once ss) = digits ss
 follows_word (each s) = 32 + s
 
--- the first code, and the first behind the last
-abbrev pub ranges_word : List Range → ℕ
-ranges_word [] = 0
-ranges_word (r ∷ rs) = r.low + 256 * (r.high + 1) + 65536 * ranges_word rs
+-- the first code of a range and the one behind its last; 0 and 0 where there is no range
+abbrev pub low_of : List Range → ℕ
+low_of [] = 0
+low_of (r ∷ rs) = r.low
 
-abbrev pub sort_word : Sort → ℕ
-sort_word s = ranges_word s.ranges + 0x100000000 * follows_word s.own + 0x4000000000000000 * pick s.few 1 0
+abbrev pub end_of : List Range → ℕ
+end_of [] = 0
+end_of (r ∷ rs) = r.high + 1
 
-abbrev pub mark_word : Mark → ℕ
-mark_word Mark.is_text = 0x200000000
-mark_word Mark.is_long = 0x400000000
-mark_word Mark.is_name = 0x800000000
-mark_word Mark.is_node = 0x1000000000
-mark_word Mark.is_two_more = 0x2000000000
-mark_word Mark.is_call = 0x4000000000
+abbrev pub others : List Range → List Range
+others [] = []
+others (r ∷ rs) = rs
 
-abbrev pub marks_word : List Mark → ℕ
-marks_word [] = 0
-marks_word (m ∷ ms) = mark_word m + marks_word ms
+abbrev pub sort_rule : Sort → SortRule
+sort_rule s =
+    record {
+      low = low_of s.ranges;
+      end = end_of s.ranges;
+      low_too = low_of (others s.ranges);
+      end_too = end_of (others s.ranges);
+      own = follows_word s.own;
+      few = s.few;
+    }
 
-abbrev pub row_word : Row → ℕ
-row_word r = follows_word r.follows + 0x40000000 * r.values + marks_word r.marks
+-- the marks by numbers, to tell them apart
+abbrev pub mark_number : Mark → ℕ
+mark_number Mark.is_text = 0
+mark_number Mark.is_long = 1
+mark_number Mark.is_name = 2
+mark_number Mark.is_node = 3
+mark_number Mark.is_two_more = 4
+mark_number Mark.is_call = 5
+
+abbrev pub has_mark : Mark → List Mark → Bool
+has_mark m [] = false
+has_mark m (n ∷ ns) = eqb (mark_number m) (mark_number n) || has_mark m ns
+
+abbrev pub text_rule : List Mark → TextRule
+text_rule ms = pick (has_mark Mark.is_text ms) (pick (has_mark Mark.is_name ms) Name (pick (has_mark Mark.is_long ms) Long Short)) NoText
+
+abbrev pub node_rule : List Mark → NodeRule
+node_rule ms =
+    pick (has_mark Mark.is_two_more ms)
+    (pick (has_mark Mark.is_node ms) Rewritten TwoInInput)
+    (pick (has_mark Mark.is_node ms) One NoNode)
+
+abbrev pub code_rule : Row → CodeRule
+code_rule r =
+    record {
+      follows = follows_word r.follows;
+      values = r.values;
+      text = text_rule r.marks;
+      nodes = node_rule r.marks;
+      is_call = has_mark Mark.is_call r.marks;
+    }
+
+-- no code is of this sort; an entry of any value with nothing behind it
+abbrev pub no_codes : SortRule
+no_codes = sort_rule no_sort
+
+abbrev pub leaf : CodeRule
+leaf = code_rule (row any [])
 
 -- the table of document 01
-unfoldable pub temporal_words : List ℕ
-temporal_words = map sort_word sorts ++ (replicate (32 - length sorts) 0 ++ map row_word rows)
+unfoldable pub temporal_grammar : Rules
+temporal_grammar = record { sorts = map sort_rule sorts ++ replicate (32 - length sorts) no_codes; codes = map code_rule rows }
 
 -- the table of provider tapes
-unfoldable pub provider_words : List ℕ
-provider_words = map sort_word provider.sorts ++ (replicate (32 - length provider.sorts) 0 ++ map row_word provider.rows)
+unfoldable pub provider_grammar : Rules
+provider_grammar =
+    record {
+      sorts = map sort_rule provider.sorts ++ replicate (32 - length provider.sorts) no_codes;
+      codes = map code_rule provider.rows;
+    }
 
 -- ------------------------------------------------------------------ what is read there
 
 -- of a sort's number the lowest five bits count
-abbrev pub sort_at : List ℕ → ℕ → ℕ
-sort_at g s = get_or g (s % 32) 0
+abbrev pub sort_at : Rules → ℕ → SortRule
+sort_at g s = get_or g.sorts (s % 32) no_codes
 
-abbrev pub row_at : List ℕ → ℕ → ℕ
-row_at g code = get_or g (32 + code) 0
+abbrev pub row_at : Rules → ℕ → CodeRule
+row_at g code = get_or g.codes code leaf
 
 -- a code is one of a sort's, of which the second range lies above the first
-abbrev pub in_sort : ℕ → ℕ → Bool
+abbrev pub in_sort : SortRule → ℕ → Bool
 in_sort sort code =
-    leb (sort % 256) code
-    && (ltb code (sort / 256 % 256) || leb (sort / 65536 % 256) code && ltb code (sort / 16777216 % 256))
+    leb sort.low code && (ltb code sort.end || leb sort.low_too code && ltb code sort.end_too)
 
-abbrev pub is_few : ℕ → Bool
-is_few sort = eqb (sort / 0x4000000000000000 % 2) 1
+abbrev pub is_few : SortRule → Bool
+is_few sort = sort.few
 
-abbrev pub own_of : ℕ → ℕ
-own_of sort = sort / 0x100000000 % 0x40000000
+abbrev pub own_of : SortRule → ℕ
+own_of sort = sort.own
 
-abbrev pub values_of : ℕ → ℕ
-values_of row = row / 0x40000000 % 8
+abbrev pub values_of : CodeRule → ℕ
+values_of row = row.values
 
-abbrev pub text_mark : ℕ → Bool
-text_mark row = eqb (row / 0x200000000 % 2) 1
+-- what may be its text
+abbrev pub has_text : TextRule → Bool
+has_text NoText = false
+has_text Short = true
+has_text Long = true
+has_text Name = true
 
-abbrev pub long_mark : ℕ → Bool
-long_mark row = eqb (row / 0x400000000 % 2) 1
+abbrev pub is_long : TextRule → Bool
+is_long NoText = false
+is_long Short = false
+is_long Long = true
+is_long Name = false
 
-abbrev pub name_mark : ℕ → Bool
-name_mark row = eqb (row / 0x800000000 % 2) 1
+abbrev pub is_name : TextRule → Bool
+is_name NoText = false
+is_name Short = false
+is_name Long = false
+is_name Name = true
+
+abbrev pub text_mark : CodeRule → Bool
+text_mark row = has_text row.text
+
+abbrev pub long_mark : CodeRule → Bool
+long_mark row = is_long row.text
+
+abbrev pub name_mark : CodeRule → Bool
+name_mark row = is_name row.text
 
 -- how much a code counts in nesting, in an input or elsewhere, and among calls
-abbrev pub nesting_of : Bool → ℕ → ℕ
-nesting_of limited row = pick limited (row / 0x1000000000 % 4) (row / 0x1000000000 % 2)
+abbrev pub nodes_of : Bool → NodeRule → ℕ
+nodes_of limited NoNode = 0
+nodes_of limited One = 1
+nodes_of limited Rewritten = pick limited 3 1
+nodes_of limited TwoInInput = pick limited 2 0
 
-abbrev pub calls_of : ℕ → ℕ
-calls_of row = row / 0x4000000000 % 2
+abbrev pub nesting_of : Bool → CodeRule → ℕ
+nesting_of limited row = nodes_of limited row.nodes
+
+abbrev pub calls_of : CodeRule → ℕ
+calls_of row = pick row.is_call 1 0
 
 -- the word of what follows a code at a place of a sort: the sort's own, or else the code's
-abbrev pub follows_in : ℕ → ℕ → ℕ
-follows_in sort row = pick (eqb (own_of sort) 0) (row % 0x40000000) (own_of sort)
+abbrev pub follows_in : SortRule → CodeRule → ℕ
+follows_in sort row = pick (eqb (own_of sort) 0) row.follows (own_of sort)
 
 -- the sorts of a word in base 64, the first lowest, and the last of them `more` times more; k digits at the most
 abbrev pub sorts_in : ℕ → ℕ → ℕ → List ℕ
@@ -102,11 +186,11 @@ abbrev pub is_each : ℕ → Bool
 is_each w = leb 32 w && ltb w 64
 
 unfoldable pub follows_of : ℕ → Follows
-follows_of w = pick (eqb w 0) (once []) (pick (is_each w) (each (w - 32)) (once (sorts_in 5 w 0)))
+follows_of w = pick (eqb w 0) (once []) (pick (is_each w) (each (w - 32)) (once (sorts_in 6 w 0)))
 
 -- how much text an entry takes, and the longest it may be: a figure that is given for names, 255 or 64 for others
-abbrev pub width_of : ℕ → ℕ → ℕ
+abbrev pub width_of : CodeRule → ℕ → ℕ
 width_of row v = text_width (text_mark row) v
 
-abbrev pub longest_of : ℕ → ℕ → ℕ
+abbrev pub longest_of : ℕ → CodeRule → ℕ
 longest_of longest row = pick (name_mark row) longest (pick (long_mark row) 255 64)

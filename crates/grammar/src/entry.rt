@@ -1,49 +1,51 @@
 // What one entry does to a scan.
-ghost use Rattle.std.specs.Prelude.{◌≡◌, ◌&&◌, ◌||◌, ◌++◌, ◌+◌, ◌/◌, ◌%◌, ◌≤◌, ◌<◌, min, eqb, ltb, length, drop};
-ghost use Rattle.grammar.specs.Stack.{cell_of, Grown, stack_of, wait_of, waits_of};
+ghost use Rattle.std.specs.Prelude.{◌≡◌, ◌&&◌, ◌||◌, ◌++◌, ◌+◌, ◌≤◌, ◌<◌, min, not, eqb, ltb, length, drop};
+ghost use Rattle.arrayvec.specs.ArrayVec.{array_vec_len};
+ghost use Rattle.grammar.specs.Stack.{stack_of, wait_of, waits_by};
 ghost use Rattle.grammar.specs.Waits.{accepts, below, counted, exceeds, is_limited, passes, valued};
 ghost use Rattle.grammar.specs.Words.{calls_of, follows_of, is_few, longest_of, nesting_of, width_of};
 
 use crate::codes::{in_sort, is_each};
-use crate::stack::{drop_first, push};
+use crate::rules::{CodeRule, NodeRule, SortRule, TextRule};
+use crate::stack::{Cell, drop_first};
+use arrayvec::ArrayVec;
 
-// An entry's code and value and the length of its text, with what a table says of it at a place of a sort: the words of the sort and of
-// the code, and that of what follows.
+// An entry's code and value and the length of its text, with what a table says of it at a place of a sort: of the sort and of the code, and
+// the word of what follows.
 #[derive(Clone, Copy, Debug, PartialEq, Eq)]
 pub struct Head {
     pub code: u8,
     pub value: u64,
     pub text: u64,
-    pub sort: u64,
-    pub row: u64,
-    pub follows: u64,
+    pub sort: SortRule,
+    pub row: CodeRule,
+    pub follows: u32,
 }
 
 // How many bytes of text an entry takes.
 #[tactic(auto, unfolding(format::specs::Tape::text_width))]
-pub fn width_of(row: u64, value: u64) -> u64
+pub fn width_of(row: CodeRule, value: u64) -> u64
     ensures { result ≡ width_of row value }
 {
-    if row / 0x2_0000_0000 % 2 == 1 {
-        value
-    } else {
-        0
+    match row.text {
+        TextRule::NoText => 0,
+        TextRule::Short | TextRule::Long | TextRule::Name => value,
     }
 }
 
 // How many entries come behind one by its count.
 #[tactic(auto, unfolding(crate::specs::Words::follows_of))]
-fn count_of(follows: u64, value: u64) -> u64
+fn count_of(follows: u32, value: u64) -> u64
     ensures { result ≡ counted (follows_of follows) value }
 {
     if is_each(follows) { value } else { 0 }
 }
 
 // Whether a value is one of the first `values` numbers, or may be any.
-fn is_valued(values: u64, value: u64) -> bool
+fn is_valued(values: u8, value: u64) -> bool
     ensures { result ≡ valued values value }
 {
-    (values == 0) | (value < values)
+    (values == 0) | (value < u64::from(values))
 }
 
 // Whether an entry may stand at its place, with `left` entries behind it and `room` bytes of text left. Most entries bring nothing.
@@ -52,37 +54,34 @@ pub fn accepts(left: usize, room: usize, e: Head) -> bool
     ensures { result ≡ accepts left room e }
 {
     in_sort(e.sort, e.code)
-        && is_valued(e.row / 0x4000_0000 % 8, e.value)
+        && is_valued(e.row.values, e.value)
         && e.text <= room as u64
         && (e.follows == 0 || count_of(e.follows, e.value) <= left as u64)
 }
 
 // The longest text: `longest` for a name.
-fn longest_of(longest: u64, row: u64) -> u64
+fn longest_of(longest: u64, row: CodeRule) -> u64
     ensures { result ≡ longest_of longest row }
 {
-    if row / 0x8_0000_0000 % 2 == 1 {
-        longest
-    } else if row / 0x4_0000_0000 % 2 == 1 {
-        255
-    } else {
-        64
+    match row.text {
+        TextRule::Name => longest,
+        TextRule::Long => 255,
+        TextRule::NoText | TextRule::Short => 64,
     }
 }
 
 // Whether a figure is passed by adding to it. Most entries add nothing.
-fn passes(most: u64, n: u64, more: u64) -> bool
-    requires { (n < 128) × (more < 4) }
+fn passes(most: u8, n: u8, more: u8) -> bool
     ensures { result ≡ passes most n more }
 {
-    more != 0 && most < n + more
+    more != 0 && u16::from(most) < u16::from(n) + u16::from(more)
 }
 
 // Whether an entry is a count of more than 16 in a short list.
 fn too_many(e: Head) -> bool
     ensures { result ≡ (is_few e.sort && ltb 16 e.value) }
 {
-    (e.sort / 0x4000_0000_0000_0000 % 2 == 1) & (16 < e.value)
+    e.sort.few & (16 < e.value)
 }
 
 // Whether a text is longer than an input's may be; `longest`, the longest of a name, is 0 where that is not asked.
@@ -101,66 +100,79 @@ fn exceeds_input(longest: u64, e: Head) -> bool
 
 // Whether an entry is neither a call nor a short list's.
 fn is_usual(e: Head) -> bool
-    ensures { result ≡ (eqb (calls_of e.row) 0 && eqb (e.sort / 0x4000000000000000 % 2) 0) }
+    ensures { result ≡ (eqb (calls_of e.row) 0 && not (is_few e.sort)) }
 {
-    (e.row / 0x40_0000_0000 % 2 == 0) & (e.sort / 0x4000_0000_0000_0000 % 2 == 0)
+    !e.row.is_call & !e.sort.few
 }
 
 // How much an entry counts in nesting. `longest` is as in `exceeds`.
-fn nesting_of(longest: u64, row: u64) -> u64
-    ensures { (result ≡ nesting_of (is_limited longest) row) × (result < 4) }
+fn nesting_of(longest: u64, row: CodeRule) -> u8
+    ensures { result ≡ nesting_of (is_limited longest) row }
 {
-    if longest == 0 {
-        row / 0x10_0000_0000 % 2
-    } else {
-        row / 0x10_0000_0000 % 4
+    match row.nodes {
+        NodeRule::NoNode => 0,
+        NodeRule::One => 1,
+        NodeRule::Rewritten if longest == 0 => 1,
+        NodeRule::Rewritten => 3,
+        NodeRule::TwoInInput if longest == 0 => 0,
+        NodeRule::TwoInInput => 2,
     }
 }
 
-// Whether an entry of the cell `w` passes a largest figure. `longest` is the longest text of a name, or 0 where the figures of an input are
-// not asked for.
-pub fn exceeds(longest: u64, w: u64, e: Head) -> bool
-    ensures { result ≡ exceeds longest (wait_of w) e }
+// And among calls.
+fn calls_of(row: CodeRule) -> u8
+    ensures { result ≡ calls_of row }
+{
+    u8::from(row.is_call)
+}
+
+// Whether an entry that a cell waited for passes a largest figure. `longest` is the longest text of a name, or 0 where the figures of an
+// input are not asked for.
+pub fn exceeds(longest: u64, c: Cell, e: Head) -> bool
+    ensures { result ≡ exceeds longest (wait_of c) e }
 {
     let row = e.row;
     let nesting = nesting_of(longest, row);
-    if passes(64, w / 0x200_0000_0000 % 128, nesting) {
+    if passes(64, c.nesting, nesting) {
         return true;
     }
     if is_usual(e) {
         return exceeds_text(longest, e);
     }
-    passes(4, w / 0x1_0000_0000_0000 % 8, row / 0x40_0000_0000 % 2) || exceeds_input(longest, e)
+    passes(4, c.calls, calls_of(row)) || exceeds_input(longest, e)
 }
 
 // A figure with more on it, up to the most that has to be told apart.
-fn raised(n: u64, more: u64, most: u64) -> u64
-    requires { (n < 128) × (more < 4) }
+fn raised(n: u8, more: u8, most: u8) -> u8
     ensures { result ≡ min (n + more) most }
 {
-    (n + more).min(most)
+    (u16::from(n) + u16::from(more)).min(u16::from(most)) as u8
 }
 
-// What follows an entry that stood at the first place of the cell `w`, on top of a stack that is without it. `longest` is as in `exceeds`.
-fn bring(stack: &mut [u64], top: usize, w: u64, e: Head, longest: u64) -> usize
-    requires { (0 < top) × (top ≤ length stack.old) × (e.follows < 0x40000000) × (counted (follows_of e.follows) e.value < 2048) }
-    ensures { Grown top 1 stack.new result (below longest (wait_of w) e ++ stack_of stack.old top) }
+// The cell of what follows an entry that a cell waited for. `longest` is as in `exceeds`.
+fn brought(c: Cell, e: Head, longest: u64) -> Option<Cell>
+    requires { counted (follows_of e.follows) e.value ≤ 65536 }
+    ensures { waits_by result ≡ below longest (wait_of c) e }
 {
     let row = e.row;
-    let n = raised(w / 0x200_0000_0000 % 128, nesting_of(longest, row), 64);
-    let k = raised(w / 0x1_0000_0000_0000 % 8, row / 0x40_0000_0000 % 2, 4);
-    push(stack, top, e.follows, e.value, n, k)
+    let nesting = raised(c.nesting, nesting_of(longest, row), 64);
+    let calls = raised(c.calls, calls_of(row), 4);
+    Cell::following(e.follows, e.value, nesting, calls)
 }
 
-// The stack after an entry that stands at the first place of the cell `w` on top of it. Most entries bring nothing.
-#[tactic(auto, unfolding(crate::specs::Words::follows_of))]
-pub fn advance(stack: &mut [u64], top: usize, w: u64, e: Head, longest: u64) -> usize
-    requires { (0 < top) × (top < length stack.old) × (e.follows < 0x40000000) × (counted (follows_of e.follows) e.value < 2048) }
-    ensures { Grown (top + 1) 2 stack.new result (below longest (wait_of w) e ++ (drop 1 (waits_of (cell_of w)) ++ stack_of stack.old (top + 1))) }
+// Takes an entry that the cell on top, `c`, waited for first: its sort is no more to come, and what follows it comes next. Most entries
+// bring nothing.
+#[tactic(auto, using(crate::proofs::Cells::pushed), unfolding(crate::specs::Words::follows_of))]
+pub fn advance<const N: usize>(stack: &mut ArrayVec<Cell, N>, c: Cell, e: Head, longest: u64)
+    requires { (0 < array_vec_len stack.old) × (array_vec_len stack.old < N) × (counted (follows_of e.follows) e.value ≤ 65536) }
+    ensures stack { stack_of stack.new.items ≡ below longest (wait_of c) e ++ drop 1 (stack_of stack.old.items) }
+    ensures least { array_vec_len stack.old ≤ array_vec_len stack.new + 1 }
+    ensures most { array_vec_len stack.new ≤ array_vec_len stack.old + 1 }
 {
-    let left = drop_first(stack, top, w);
-    if e.follows == 0 {
-        return left;
+    drop_first(stack);
+    if e.follows != 0
+        && let Some(cell) = brought(c, e, longest)
+    {
+        stack.push(cell);
     }
-    bring(stack, left, w, e, longest)
 }

@@ -4,6 +4,8 @@ ghost use Rattle.format.specs.Limits.{is_node};
 ghost use Rattle.format.specs.Tape.{is_text, text_width};
 ghost use Rattle.grammar.specs.Kind.{kind_of};
 
+use crate::code;
+
 #[derive(Clone, Copy, Debug, PartialEq, Eq)]
 enum ValueKind {
     Text,
@@ -12,15 +14,33 @@ enum ValueKind {
     Plain,
 }
 
-// Document 01: "An entry with text has its length as value".
+// Document 01: "An entry with text has its length as value". One match with ranges is a form that it names; 70 to 76 are a provider's.
 #[tactic(auto, unfolding(format::specs::Tape::is_text, format::specs::Macro::is_code, crate::specs::Kind::is_span, crate::specs::Kind::is_count, crate::specs::Kind::kind_of))]
 fn kind_of(code: u8) -> ValueKind
     ensures { result ≡ kind_of code }
 {
     match code {
-        27 | 22..=23 | 32..=33 | 40 | 43..=45 | 52 | 58..=59 | 72 | 74 => ValueKind::Text,
-        1..=13 | 34..=36 | 42 | 54 | 60 | 70 => ValueKind::Span,
-        25..=26 | 29 | 41 | 47 | 71 | 76 => ValueKind::Count,
+        code::DECIMAL..=code::STRING
+        | code::VAR
+        | code::PARAM_REF..=code::BINDER_REF
+        | code::TEXT
+        | code::SLOT_NAME..=code::SLOT_BINDER
+        | code::WITHIN_PARAM
+        | code::SIGIL_PARAM..=code::SIGIL_BINDER
+        | 72
+        | 74 => ValueKind::Text,
+        code::AND..=code::REFINE
+        | code::SUM..=code::AGG_CALL
+        | code::SPAN
+        | code::CALLED
+        | code::DEFINITION
+        | 70 => ValueKind::Span,
+        code::CONTEXT_FIELD..=code::SCOPE_FIELD
+        | code::ARRAY
+        | code::LIST
+        | code::TYPE_NAMED
+        | 71
+        | 76 => ValueKind::Count,
         _ => ValueKind::Plain,
     }
 }
@@ -42,18 +62,18 @@ pub fn is_text(code: u8) -> bool
     ensures { result ≡ is_text code }
 {
     match code {
-        22 => true,
-        23 => true,
-        27 => true,
-        32 => true,
-        33 => true,
-        40 => true,
-        43 => true,
-        44 => true,
-        45 => true,
-        52 => true,
-        58 => true,
-        59 => true,
+        code::DECIMAL => true,
+        code::STRING => true,
+        code::VAR => true,
+        code::PARAM_REF => true,
+        code::BINDER_REF => true,
+        code::TEXT => true,
+        code::SLOT_NAME => true,
+        code::SLOT_PARAM => true,
+        code::SLOT_BINDER => true,
+        code::WITHIN_PARAM => true,
+        code::SIGIL_PARAM => true,
+        code::SIGIL_BINDER => true,
         72 => true,
         74 => true,
         _ => false,
@@ -65,5 +85,5 @@ pub fn is_text(code: u8) -> bool
 pub fn is_node(code: u8) -> bool
     ensures { result ≡ is_node code }
 {
-    matches!(code, 1..=13 | 20..=36)
+    matches!(code, code::AND..=code::REFINE | code::ENTITY..=code::AGG_CALL)
 }

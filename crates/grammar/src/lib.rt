@@ -8,4 +8,5 @@ pub mod count;
 pub mod entry;
 pub mod kind;
 pub mod provider;
+pub mod rules;
 pub mod stack;

@@ -22,6 +22,7 @@ fn main(rt: HostRuntime) -> io::Result<()> {
 }
 
 // Reads until the buffer is full or the input ends, and says how many bytes came.
+// std's whole reads say too little where a read fails, so the loop is over `read`.
 fn read_full(reader: &mut impl Read, buffer: &mut [u8]) -> io::Result<usize>
     ensures { IfOk result (λ n. n ≤ length buffer.new) }
 {
@@ -40,7 +41,7 @@ fn read_full(reader: &mut impl Read, buffer: &mut [u8]) -> io::Result<usize>
 fn run(rt: &impl Print, input: &[u8]) -> io::Result<()> {
     match split(input) {
         Some((registry, sheet)) => expand_sheet(rt, registry, sheet),
-        None => print_line(rt, 0, 2, 0, 0, 0),
+        None => println!(rt; "0 {} 0 0 0", numbers::MALFORMED),
     }
 }
 
@@ -58,7 +59,7 @@ fn expand_sheet<'a>(rt: &impl Print, registry: &'a [u8], sheet: &'a [u8]) -> io:
     let mut message = [0u8; 2048];
     let opened = sheet::open(registry, sheet, 1000, 0, &mut message);
     let answer = opened.answer;
-    if answer.number != 0 {
+    if answer.number != numbers::OK {
         return print_answer(rt, 0, answer);
     }
     let p = opened.progress;
@@ -108,31 +109,8 @@ fn print_steps<'a>(
 
 fn print_answer(rt: &impl Print, place: u64, answer: Answer) -> io::Result<()> {
     let span = answer.span;
-    print_line(
-        rt,
-        place,
-        answer.number,
-        span.start,
-        span.end,
-        answer.charged,
+    println!(rt;
+        "{place} {} {} {} {}",
+        answer.number, span.start, span.end, answer.charged
     )
-}
-
-fn print_line(
-    rt: &impl Print,
-    place: u64,
-    number: u32,
-    start: u32,
-    end: u32,
-    charged: u32,
-) -> io::Result<()> {
-    print(rt, place, " ")?;
-    print(rt, number as u64, " ")?;
-    print(rt, start as u64, " ")?;
-    print(rt, end as u64, " ")?;
-    print(rt, charged as u64, "\n")
-}
-
-fn print(rt: &impl Print, n: u64, behind: &str) -> io::Result<()> {
-    print!(rt; "{n}{behind}")
 }

@@ -11,6 +11,7 @@ use answer::tapes::accept_two;
 use answer::{Answer, long_buffers, number_alone};
 use expansion::expand_lent;
 use grammar::codes::{CONDITION, DEFINITIONS};
+use judge_names::Protected;
 use judge_names::result::is_equal;
 use tape::accept::accept_named;
 use tape::layout::{Layout, Tape};
@@ -36,19 +37,21 @@ fn is_ours(
 ) -> bool
     ensures { result ≡ equal_in registry.now d input.now c supplied.now m res.now }
 {
-    let registry = Tape {
-        bytes: registry,
-        layout: d,
-    };
-    let input = Tape {
-        bytes: input,
-        layout: c,
+    let protected = Protected {
+        registry: Tape {
+            bytes: registry,
+            layout: d,
+        },
+        condition: Tape {
+            bytes: input,
+            layout: c,
+        },
     };
     let supplied = Tape {
         bytes: supplied,
         layout: m,
     };
-    is_equal(&registry, &input, &supplied, res)
+    is_equal(&protected, &supplied, res)
 }
 
 // The operation on a registry, a condition, `input`, and the supplier's result: the answer and every byte of the three buffers are what
@@ -78,7 +81,7 @@ pub fn judge<'a>(
         Err(fault) => return number_alone(fault.number(), 0, res, work, message),
     };
     let answer = expand_lent(registry, input, limit, file, res, work, message, &mut []);
-    if answer.number != 0 {
+    if answer.number != numbers::OK {
         return answer;
     }
     if is_ours(registry, d, input, c, supplied, m, res) {

@@ -43,9 +43,6 @@ module _ (s : List ℕ) (l : Layout) (i n : ℕ) where
   unfolding entries_from
   entries_none h = let e : n - i ≡ 0 = omega arith in rw e refl
 
-pub entries_all : (s : List ℕ) (l : Layout) → entries_from s l 0 (l.entries - 0) ≡ entries_in s l
-entries_all s l = ap (entries_from s l 0) (sub-zero l.entries)
-
 -- ------------------------------------------------------------------ names
 
 module _ (s : List ℕ) (l : Layout) (at : ℕ) (name : Text) where

@@ -46,7 +46,7 @@ use Rattle.registry.proofs.Standing.{indexed_registry, ended_registry}
 use Rattle.registry.proofs.Verdicts.{build_matches}
 use Rattle.merge.specs.Join.{MergingIn, after_names, merged_of, merged_in, joined_in, merge_in}
 use Rattle.merge.specs.Ends.{MergingMatches, AnswersMerging, EndsMerge}
-use Rattle.merge.specs.declared.join.Merging.TheVariants.{Written, First}
+use Rattle.merge.specs.declared.join.Refusing.TheVariants.{First}
 use Rattle.merge.proofs.Joining.{JoinsTo, joins, differs, joined_is}
 
 -- ------------------------------------------------------------------ the definition's outcome
@@ -71,7 +71,7 @@ module _ (s : List ℕ) (d : Layout) (t : List ℕ) (e : Layout) where
       rw w (by_size st.out.overflowed (fits_area (flat_registry defs)) h.overflows refl)
     where
       by_size : (over b : Bool) → over ≡ not b → fits_area (flat_registry defs) ≡ b
-          → MergingMatches s d t e (pick over (First (refused_at 0 (WithoutMessage 3))) (Written st.out)) X.bytes (walked none (not b) defs 0)
+          → MergingMatches s d t e (pick over (Err (First (refused_at 0 (WithoutMessage 3)))) (Ok st.out)) X.bytes (walked none (not b) defs 0)
       by_size over true q f = rw q (refl, h, f)
       by_size over false q f = rw q (refl, record { its_number = refl; its_span = refl; its_message = refl })
 

@@ -22,8 +22,8 @@ use Rattle.registry.specs.declared.rows.Row.{Row}
 use Rattle.merge.specs.Agree.{compare_at}
 use Rattle.merge.specs.declared.agree.Compared.{Compared}
 use Rattle.merge.specs.declared.agree.Compared.TheVariants.{New, Known, Differs}
-use Rattle.merge.specs.declared.join.Merging.{Merging}
-use Rattle.merge.specs.declared.join.Merging.TheVariants as merge
+use Rattle.merge.specs.declared.join.Refusing.{Refusing}
+use Rattle.merge.specs.declared.join.Refusing.TheVariants as merge
 
 -- ------------------------------------------------------------------ the area
 
@@ -61,25 +61,25 @@ joined_in s d rows t e bytes =
 -- ------------------------------------------------------------------ the merge
 
 -- 3 with 0..0 if the entries or the text were too many
-abbrev pub written_of : Writer → Merging
-written_of out = pick out.overflowed (merge.First (refused_at 0 (WithoutMessage 3))) (merge.Written out)
+abbrev pub written_of : Writer → Result Writer Refusing
+written_of out = pick out.overflowed (Err (merge.First (refused_at 0 (WithoutMessage 3)))) (Ok out)
 
-unfoldable pub merged_of : Walk → Merging
+unfoldable pub merged_of : Walk → Result Writer Refusing
 merged_of (walk.Going st) = written_of st.out
-merged_of (walk.Refused f charged) = merge.First f
+merged_of (walk.Refused f charged) = Err (merge.First f)
 
 -- what a merge came to, with the slice that its area is in
 pub record MergingIn : Type 0 where
-  pub outcome : Merging
+  pub outcome : Result Writer Refusing
   pub bytes : List ℕ
 
-abbrev pub merging : Merging → List ℕ → MergingIn
+abbrev pub merging : Result Writer Refusing → List ℕ → MergingIn
 merging m bytes = record { outcome = m; bytes = bytes }
 
 -- the first's names, then the second's, and then what is joined
 abbrev pub after_names : Result Unit Refused → Result Unit Refused → List ℕ → MergingIn → MergingIn
-after_names (Err f) second bytes X = merging (merge.First f) bytes
-after_names (Ok u) (Err f) bytes X = merging (merge.Second f) bytes
+after_names (Err f) second bytes X = merging (Err (merge.First f)) bytes
+after_names (Ok u) (Err f) bytes X = merging (Err (merge.Second f)) bytes
 after_names (Ok u) (Ok v) bytes X = X
 
 abbrev pub merged_in : Progress → MergingIn

@@ -13,6 +13,7 @@ use tape::scan::skip;
 
 // What a definition of the second registry is to the first: a new one, or one that agrees with the first's, each with the place behind
 // it; or one that differs, with its span.
+// Not a Result: a new and a known definition both go on, and one that differs is refused where its span is at hand.
 #[derive(Clone, Copy, Debug, PartialEq, Eq)]
 pub enum Compared {
     New(Place),

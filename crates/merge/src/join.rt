@@ -10,16 +10,15 @@ use grammar::code;
 use grammar::codes::DEFINITIONS;
 use messages::{Reason, Refused, refuse};
 use nodes::{Refusal, expect};
-use registry::{Index, Row, index};
+use registry::{Index, Row};
 use subst_state::run::copy;
 use tape::layout::{Place, Tape};
 use tape::scan::skip;
 use walk_state::writing::Cursor;
 
-// What a merge comes to: the joined registry in an area; or a refusal, whose message's names stand on the first tape or on the second.
+// A refusal of a merge, whose message's names stand on the first tape or on the second.
 #[derive(Clone, Copy, Debug, PartialEq, Eq)]
-pub enum Merging {
-    Written(Writer),
+pub enum Refusing {
     First(Refused),
     Second(Refused),
 }
@@ -87,44 +86,28 @@ fn join(first: &Index, t: &Tape, c: &mut Cursor) -> Result<(), Refused>
 
 // 3 with 0..0 if the joined registry is too large. It nests no deeper than the two do.
 #[tactic(auto, unfolding(crate::specs::Join::merged_of))]
-fn merged(walked: Result<(), Refused>, c: &Cursor) -> Merging
+fn merged(walked: Result<(), Refused>, c: &Cursor) -> Result<Writer, Refusing>
     ensures { result ≡ merged_of (came_to walked c.now).walk }
 {
-    match walked {
-        Ok(()) if c.out.overflowed => Merging::First(refuse(
-            0,
-            Reason::WithoutMessage(numbers::TOO_LARGE),
-        )),
-        Ok(()) => Merging::Written(c.out),
-        Err(f) => Merging::First(f),
+    walked.map_err(Refusing::First)?;
+    if c.out.overflowed {
+        return Err(Refusing::First(refuse(0, Reason::WithoutMessage(numbers::TOO_LARGE))));
     }
+    Ok(c.out)
 }
 
 // 10 and 11 of the first and then of the second, and the joined registry. The table, which has room for as many definitions as a
 // registry can have, has the rows of the second until its names are judged, and then those of the first.
 #[tactic(auto, unfolding(crate::specs::Join::merge_in))]
-pub fn merge_named(s: &Tape, t: &Tape, area: &mut [u8]) -> Merging
+pub fn merge_named(s: &Tape, t: &Tape, area: &mut [u8]) -> Result<Writer, Refusing>
     ensures { merging result area.new ≡ merge_in s.now.bytes.now s.now.layout t.now.bytes.now t.now.layout 255 area.old }
 {
-    let mut rows = [Row::EMPTY; 255];
-    let others = index(t, &mut rows);
-    let second = Index {
-        tape: *t,
-        rows: &rows[..others],
-    };
-    let later = second.check_names();
-    let count = index(s, &mut rows);
-    let first = Index {
-        tape: *s,
-        rows: &rows[..count],
-    };
-    match (first.check_names(), later) {
-        (Err(f), _) => Merging::First(f),
-        (Ok(()), Err(f)) => Merging::Second(f),
-        (Ok(()), Ok(())) => {
-            let mut c = Cursor::new(area);
-            let walked = join(&first, t, &mut c);
-            merged(walked, &c)
-        }
-    }
+    let mut table = [Row::EMPTY; 255];
+    let later = Index::new(t, &mut table).check_names();
+    let first = Index::new(s, &mut table);
+    first.check_names().map_err(Refusing::First)?;
+    later.map_err(Refusing::Second)?;
+    let mut c = Cursor::new(area);
+    let walked = join(&first, t, &mut c);
+    merged(walked, &c)
 }

@@ -3,16 +3,15 @@
 #![tactic(auto)]
 
 ghost use Rattle.std.specs.Prelude.{[], ◌≡◌, ◌&&◌, leb, length, replicate};
-ghost use Rattle.definition.specs.Answers.{number_alone, without_work};
 ghost use Rattle.definition.specs.Merge.{merge_answer};
 ghost use Rattle.answer.specs.Matches.{answer_with, ended};
 ghost use Rattle.de_morgan.specs.Rewritten.{rewritten_in, rewritten_layout};
 ghost use Rattle.merge.specs.Ends.{AnswersMerging, EndsMerge};
 
-use crate::join::{Merging, merge_named};
+use crate::join::{Refusing, merge_named};
 use answer::tapes::accept_two;
-use answer::{Answer, number_alone, refuse};
-use area::finish;
+use answer::{Answer, number_alone, refuse, refuse_without_work};
+use area::{Writer, finish};
 use de_morgan::{rewritten_in, without_or};
 use grammar::codes::DEFINITIONS;
 use tape::layout::Tape;
@@ -27,19 +26,11 @@ fn long_enough(res: usize, message: usize) -> bool
     12296 <= res && 2048 <= message
 }
 
-// A refusal that comes before the merge.
-#[tactic(auto, using(answer::proofs::Ends::without_work_lem), unfolding(definition::specs::Answers::number_alone, answer::specs::Matches::ended))]
-fn refuse_number(number: u32, res: &mut [u8], message: &mut [u8]) -> Answer
-    ensures { answer_with result res.new [] message.new ≡ ended (without_work (length res.old) (length message.old)) (number_alone number) }
-{
-    number_alone(number, 0, res, &mut [], message)
-}
-
 // The answer of what a merge came to, whose registry stands in an area.
 fn answer_merging(
     first: &Tape,
     second: &Tape,
-    m: Merging,
+    m: Result<Writer, Refusing>,
     area: &[u8],
     res: &mut [u8],
     message: &mut [u8],
@@ -47,12 +38,12 @@ fn answer_merging(
     ensures { AnswersMerging first.now.bytes.now first.now.layout second.now.bytes.now second.now.layout m area.now (length res.old) (length message.old) (answer_with result res.new [] message.new) }
 {
     match m {
-        Merging::Written(out) => {
+        Ok(out) => {
             finish(area, out, res);
             number_alone(numbers::OK, 0, &mut [], &mut [], message)
         }
-        Merging::First(f) => refuse(first, first, f, 0, res, &mut [], message),
-        Merging::Second(f) => refuse(second, second, f, 0, res, &mut [], message),
+        Err(Refusing::First(f)) => refuse(first, first, f, 0, res, &mut [], message),
+        Err(Refusing::Second(f)) => refuse(second, second, f, 0, res, &mut [], message),
     }
 }
 
@@ -83,10 +74,10 @@ pub fn merge(first: &[u8], second: &[u8], res: &mut [u8], message: &mut [u8]) ->
     ensures { answer_with result res.new [] message.new ≡ merge_answer (length res.old) (length message.old) first.now second.now }
 {
     if !long_enough(res.len(), message.len()) {
-        return refuse_number(numbers::SHORT_BUFFER, res, message);
+        return refuse_without_work(numbers::SHORT_BUFFER, res, message);
     }
     match accept_two(first, DEFINITIONS, second, DEFINITIONS) {
-        Err(fault) => refuse_number(fault.number(), res, message),
+        Err(fault) => refuse_without_work(fault.number(), res, message),
         Ok((d, e)) => {
             let first = Tape {
                 bytes: first,

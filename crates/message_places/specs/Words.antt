@@ -16,7 +16,8 @@ sigil_of Binder = Sigil.Binder
 unfoldable pub stray_pieces : Sigil → Text → Text → List Text
 stray_pieces g name place = utf8 "stray " ∷ sigil_kind g ∷ utf8 " reference `" ∷ sigil_mark g ∷ name ∷ place ∷ []
 
--- Some condition of each code, for the words that the message has for all of them: `by_code` has them by the code, and a refinement for every other number.
+-- Some condition of each code, for the words that the message has for all of them: `by_code` has them by the code, and a refinement for
+-- every other number.
 abbrev pub any_tp : Condition
 any_tp = Condition.Tp 0 (BinderSlot.Name [])
 

@@ -29,7 +29,7 @@ use tape::layout::{Place, Tape};
 // Why an input is refused. A name is one of the definition's tape (a registry's too), or of the call's (a condition's too).
 #[derive(Clone, Copy, Debug, PartialEq, Eq)]
 pub enum Reason {
-    // 1, 2, 3 and 48 say nothing: the number
+    // 1, 2, 3 and all from 48 up say nothing: the number
     WithoutMessage(u32),
     // 10, 11: the definition's name; the span of the one before
     Reserved(Name),
@@ -74,7 +74,7 @@ pub struct Refused {
 }
 
 impl Refused {
-    // No nesting is left, which no accepted tape shows.
+    // No nesting is left, which no accepted tape shows. The constant is the name of its 3.
     pub const TOO_DEEP: Refused = Refused {
         span: Span { start: 0, end: 0 },
         reason: Reason::WithoutMessage(3),

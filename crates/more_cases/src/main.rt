@@ -45,8 +45,7 @@ fn say_whether(rt: &impl Print, res: &[u8]) -> io::Result<()> {
 fn long(rt: &impl Print, registry: &[u8], entries: u32) -> io::Result<()> {
     let mut condition = [0u8; 9233];
     let n = samples::long_condition(entries as usize, &mut condition);
-    print!(rt; "N = ")?;
-    print(rt, entries, ": ")?;
+    print!(rt; "N = {entries}: ")?;
     expand_alone(rt, registry, part_of(&condition, 0, n))
 }
 
@@ -74,12 +73,9 @@ fn expand<'a>(
         &mut message,
         &mut [],
     );
-    print(rt, answer.number, " ")?;
-    print(rt, answer.span.start, " ")?;
-    print(rt, answer.span.end, " ")?;
-    print(rt, answer.charged, behind)
-}
-
-fn print(rt: &impl Print, n: u32, behind: &str) -> io::Result<()> {
-    print!(rt; "{n}{behind}")
+    let span = answer.span;
+    print!(rt;
+        "{} {} {} {}{behind}",
+        answer.number, span.start, span.end, answer.charged
+    )
 }

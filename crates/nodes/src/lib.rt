@@ -131,7 +131,8 @@ pub fn span_of(value: u64) -> Span
     }
 }
 
-// Whether the slice holds entry `at` of a layout.
+// Whether the slice holds entry `at` of a layout. No slice is read here or in `has_text`: both compare numbers, so that a length and a
+// layout are enough.
 #[tactic(auto, unfolding(crate::specs::Node::has_entry))]
 fn has_entry(len: usize, l: Layout, at: usize) -> bool
     ensures { result ≡ has_entry len l at }

@@ -20,7 +20,7 @@ use Rattle.format.specs.Tape.{Reading, split, read_texts, read_sections, read_si
 use Rattle.definition.specs.Answers.{number_alone, reading}
 use Rattle.definition.specs.Outcome.{Outcome}
 use Rattle.grammar.specs.Waits.{wait}
-use Rattle.grammar.specs.Words.{temporal_words, in_sort}
+use Rattle.grammar.specs.Words.{temporal_grammar, no_codes, in_sort}
 use Rattle.tape.specs.Accept.{judged, accept_in, after_open, accept_of}
 use Rattle.tape.specs.Header.{entries_of, size_of, fault_number}
 use Rattle.tape.specs.Layouts.{tape_layout, entries_at}
@@ -42,21 +42,21 @@ root_of_lem Kind.registry = registry_root_lem
 -- ------------------------------------------------------------------ no root
 
 -- no code is of the sort 0
-no_code : (c : ℕ) → in_sort 0 c ≡ false
+no_code : (c : ℕ) → in_sort no_codes c ≡ false
 no_code c = rw (le-ltb c 0 (omega arith), le-leb 0 c (omega arith)) refl
 
-none_scanned : (size : ℕ) (es : List Entry) → scan_of temporal_words 64 size es (wait 0 0 0 ∷ []) 0 0 false ≡ None
-unfolding temporal_words
+none_scanned : (size : ℕ) (es : List Entry) → scan_of temporal_grammar 64 size es (wait 0 0 0 ∷ []) 0 0 false ≡ None
+unfolding temporal_grammar
 none_scanned size [] = refl
 none_scanned size (e ∷ es) = rw (no_code e.code) refl
 
-none_judged : (s : List ℕ) (l : Layout) → accept_in temporal_words 64 s 0 l ≡ Err Malformed
+none_judged : (s : List ℕ) (l : Layout) → accept_in temporal_grammar 64 s 0 l ≡ Err Malformed
 none_judged s l = go (starts s l (record { at = 0; text = 0 }) 0)
   where
     es : List Entry
-    es = entries_at temporal_words s l 0 0 (l.entries - 0)
+    es = entries_at temporal_grammar s l 0 0 (l.entries - 0)
 
-    go : (b : Bool) → judged s l (pick b (scan_of temporal_words 64 l.size es (wait 0 0 0 ∷ []) 0 0 false) None) ≡ Err Malformed
+    go : (b : Bool) → judged s l (pick b (scan_of temporal_grammar 64 l.size es (wait 0 0 0 ∷ []) 0 0 false) None) ≡ Err Malformed
     go true = rw (none_scanned l.size es) refl
     go false = refl
 
@@ -97,19 +97,19 @@ none_answers s = long (leb 8 (length s))
     m : ℕ
     m = size_of s
 
-    sized : (b : Bool) → after_open temporal_words 64 s 0 (pick b (Ok (tape_layout n m)) (Err Malformed)) ≡ Err Malformed
+    sized : (b : Bool) → after_open temporal_grammar 64 s 0 (pick b (Ok (tape_layout n m)) (Err Malformed)) ≡ Err Malformed
     sized true = none_judged s (tape_layout n m)
     sized false = refl
 
     fits : (b : Bool)
-        → NoRoot (after_open temporal_words 64 s 0 (pick b (pick (eqb (length s) (8 + 9 * n + m)) (Ok (tape_layout n m)) (Err Malformed)) (Err TooLarge)))
+        → NoRoot (after_open temporal_grammar 64 s 0 (pick b (pick (eqb (length s) (8 + 9 * n + m)) (Ok (tape_layout n m)) (Err Malformed)) (Err TooLarge)))
         (reading {A = List Entry} (elim b [ true ↦ read_sections n m (drop 8 s) | false ↦ Reading.too_large ]) (λ es. number_alone 2))
     fits true = rw (sized (eqb (length s) (8 + 9 * n + m)), sections_none n m (drop 8 s)) (no_root Malformed)
     fits false = no_root TooLarge
 
     long : (b : Bool)
         → NoRoot
-        (after_open temporal_words 64 s 0 (pick b (pick (fits_sizes n m) (pick (eqb (length s) (8 + 9 * n + m)) (Ok (tape_layout n m)) (Err Malformed)) (Err TooLarge)) (Err Malformed)))
+        (after_open temporal_grammar 64 s 0 (pick b (pick (fits_sizes n m) (pick (eqb (length s) (8 + 9 * n + m)) (Ok (tape_layout n m)) (Err Malformed)) (Err TooLarge)) (Err Malformed)))
         (reading {A = List Entry} (elim b [ true ↦ read_sizes n m (drop 8 s) | false ↦ Reading.malformed ]) (λ es. number_alone 2))
     long true = fits (fits_sizes n m)
     long false = no_root Malformed

@@ -1,4 +1,5 @@
-// The older tape as an operation (document 02, point 8): a tape of any root of document 01, or of a lone term, for heads that know no weeks.
+// The older tape as an operation (document 02, point 8): a tape of any root of document 01, or of a lone term, for heads that know no
+// weeks.
 #![tactic(auto)]
 
 ghost use Rattle.std.specs.Prelude.{[], ◌≡◌, length, replicate};
@@ -51,7 +52,8 @@ fn older_in(tape: &Tape, res: &mut [u8]) -> Answer
     }
 }
 
-// The same of the rewritten tape, for which there is room here: most tapes have no Or.
+// The same of the rewritten tape, for which there is room here: most tapes have no Or, and only those with one pay for it. Tried with a
+// closure, which writes to a lent buffer: the caller's goal stays open.
 fn older_rewritten(tape: &Tape, res: &mut [u8]) -> Answer
     ensures { AnswersOlder (rewritten_in tape.now.bytes.now tape.now.layout (replicate 12296 0)) (rewritten_layout tape.now.bytes.now tape.now.layout) (length res.old) (answer_with result res.new [] []) }
 {

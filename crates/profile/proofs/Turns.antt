@@ -1,6 +1,6 @@
 -- A turn of the loop over the entries of a layout.
 -- Assumes nothing.
-use Prim.Native.Nat.{ℕ, suc, ◌+◌, ◌-◌, ◌*◌, ◌≤◌, ◌<◌}
+use Prim.Native.Nat.{ℕ, suc, ◌+◌, ◌-◌, ◌≤◌, ◌<◌}
 use mathlib.Core.Path.{◌≡◌, refl, sym, ap, ◌∙◌}
 use mathlib.Core.Bool.{Bool, true, false, not, ◌&&◌}
 use mathlib.Core.List.{List, [], ◌∷◌}
@@ -55,9 +55,9 @@ room nodes e h = go (eqb e.code 30) (is_node e.code) (leb 16 nodes) (leb-false 1
     go false false full q k = omega arith
 
 -- nor one for whose items there is no room
-pub deep_enough : (nodes top : ℕ) (e : Head) → nodes ≤ 16 → 34 ≤ top + 2 * nodes + 2 → broken_by nodes e ≡ None → is_condition e.code ≡ true → 2 ≤ top
+pub shallow_enough : (nodes depth : ℕ) (e : Head) → nodes ≤ 16 → depth ≤ nodes + 1 → broken_by nodes e ≡ None → is_condition e.code ≡ true → depth < 17
 unfolding weigh
-deep_enough nodes top e h k q c =
+shallow_enough nodes depth e h k q c =
     let node : weigh (is_node e.code) ≡ 1 = rw (condition_node e.code c) refl in
     omega (arith, k, node, room nodes e h q)
 

@@ -1,9 +1,10 @@
 -- The spans of the conditions around what is still to come on a tape, the next first. An item of a condition is what has a condition or an
 -- interval in it: each of its conditions, its within, each argument of its call. Each item to come has the span of its condition here.
 -- Assumes nothing.
-use Rattle.std.specs.Prelude.{ℕ, ◌+◌, ◌≤◌, ◌≡◌, List, [], ◌∷◌, ◌++◌, Bool, true, false, ◌&&◌, leb, length, drop, get_or, replicate}
+use Rattle.std.specs.Prelude.{ℕ, ◌+◌, ◌≤◌, ◌≡◌, List, [], ◌∷◌, ◌++◌, Bool, true, false, ◌&&◌, leb, length, drop, get_or, replicate, reverse}
 use Rattle.tape.specs.Pick.{pick}
 use Rattle.nodes.specs.Node.{by_code}
+use Rattle.profile.specs.declared.around.Around.{Around}
 use Rattle.profile.specs.declared.around.Head.{Head}
 
 -- ------------------------------------------------------------------ as they are meant
@@ -38,18 +39,12 @@ nearest spans = get_or spans 0 0
 
 -- ------------------------------------------------------------------ as they stand in memory
 
--- Two numbers for each condition: how many more items it has behind the next one, and its span.
-unfoldable mutual
-  pub spans_in : List ℕ → List ℕ
-  spans_in [] = []
-  spans_in (more ∷ list) = spans_with more list
+-- the conditions that have items to come, the innermost first
+unfoldable pub spans_in : List Around → List ℕ
+spans_in [] = []
+spans_in (a ∷ around) = a.span ∷ (replicate a.more a.span ++ spans_in around)
 
-  pub spans_with : ℕ → List ℕ → List ℕ
-  spans_with more [] = []
-  spans_with more (span ∷ list) = span ∷ (replicate more span ++ spans_in list)
-
--- the list that began at `top` begins at `r` now, `grown` numbers lower at the most, and has these items
-pub record Moved (spans : List ℕ) (top : ℕ) (r : ℕ) (after : List ℕ) (to : List ℕ) (grown : ℕ) : Type 0 where
-  pub items_are : spans_in (drop r after) ≡ to
-  pub top_least : top ≤ r + grown
-  pub top_most : r ≤ length spans
+-- The code has the innermost last. The list has these items now, and at most `grown` conditions more.
+pub record Moved (around after : List Around) (to : List ℕ) (grown : ℕ) : Type 0 where
+  pub items_are : spans_in (reverse after) ≡ to
+  pub few : length after ≤ length around + grown

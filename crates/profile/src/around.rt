@@ -1,11 +1,19 @@
 // The spans of the conditions around what is still to come. An item of a condition is what has a condition or an interval in it: each of
-// its conditions, its within, each argument of its call. The items to come stand in a list that grows downward, the next on top, two
-// numbers for each condition: how many more items it has behind the next one, and its span.
-ghost use Rattle.std.specs.Prelude.{◌≡◌, true, ◌++◌, ◌*◌, ◌≤◌, length, drop, replicate};
+// its conditions, its within, each argument of its call. The conditions that have items to come stand in a vector, the innermost last.
+ghost use Rattle.std.specs.Prelude.{◌≡◌, true, ◌++◌, ◌<◌, ◌≤◌, drop, replicate, reverse};
+ghost use Rattle.arrayvec.specs.ArrayVec.{array_vec_len};
 ghost use Rattle.format.specs.Limits.{is_node, weigh};
 ghost use Rattle.profile.specs.Spans.{items_of, is_condition, ends_item, spans_after, nearest, spans_in, Moved};
 
+use arrayvec::ArrayVec;
 use grammar::code;
+
+// A condition that has items to come: how many more behind the next one, and its span.
+#[derive(Clone, Copy, Debug, PartialEq, Eq, Default)]
+pub struct Around {
+    pub more: u64,
+    pub span: u64,
+}
 
 // An entry's code and value, and how many arguments a call has whose 11 it is.
 #[derive(Clone, Copy, Debug, PartialEq, Eq)]
@@ -54,56 +62,49 @@ fn ends_item(code: u8) -> bool
 }
 
 // The span of the condition that the next item is in; 0 for the whole.
-#[tactic(auto, using(crate::proofs::Lists::nearest_is))]
-pub fn nearest(spans: &[u64], top: usize) -> u64
-    requires { top ≤ length spans.now }
-    ensures { result ≡ nearest (spans_in (drop top spans.now)) }
+#[tactic(auto, using(crate::proofs::Lists::nearest_none, crate::proofs::Lists::nearest_some))]
+pub fn nearest(around: &[Around]) -> u64
+    ensures { result ≡ nearest (spans_in (reverse around.now)) }
 {
-    spans.get(top + 1).copied().unwrap_or(0)
+    match around.last() {
+        Some(condition) => condition.span,
+        None => 0,
+    }
 }
 
 // The next item is no more to come.
-#[tactic(auto, using(crate::proofs::Lists::taken_none, crate::proofs::Lists::taken_last, crate::proofs::Lists::taken_one))]
-fn take_item(spans: &mut [u64], top: usize) -> usize
-    requires { top ≤ length spans.old }
-    ensures { Moved spans.old top result spans.new (drop 1 (spans_in (drop top spans.old))) 0 }
+fn take_item(around: &mut ArrayVec<Around, 17>)
+    requires { array_vec_len around.old ≤ 17 }
+    ensures { Moved around.old.items around.new.items (drop 1 (spans_in (reverse around.old.items))) 0 }
 {
-    if spans.len() - top < 2 {
-        return top;
+    let Some(condition) = around.pop() else {
+        return;
+    };
+    if let Some(more) = condition.more.checked_sub(1) {
+        around.push(Around { more, ..condition });
     }
-    if spans[top] == 0 {
-        return top + 2;
-    }
-    spans[top] -= 1;
-    top
 }
 
 // The items of a condition come next.
-#[tactic(auto, using(crate::proofs::Lists::added_none, crate::proofs::Lists::added_some))]
-fn add_items(spans: &mut [u64], top: usize, count: u64, span: u64) -> usize
-    requires { (2 ≤ top) × (top ≤ length spans.old) }
-    ensures { Moved spans.old top result spans.new (replicate count span ++ spans_in (drop top spans.old)) 2 }
+fn add_items(around: &mut ArrayVec<Around, 17>, count: u64, span: u64)
+    requires { array_vec_len around.old < 17 }
+    ensures { Moved around.old.items around.new.items (replicate count span ++ spans_in (reverse around.old.items)) 1 }
 {
-    if count == 0 {
-        return top;
+    if let Some(more) = count.checked_sub(1) {
+        around.push(Around { more, span });
     }
-    spans[top - 1] = span;
-    spans[top - 2] = count - 1;
-    top - 2
 }
 
 // What is still to come behind an entry: an argument's 55 or 57 leaves its item to what it holds.
 #[tactic(auto, using(crate::proofs::Lists::passed_end, crate::proofs::Lists::passed_other))]
-pub fn pass_entry(spans: &mut [u64], top: usize, e: Head) -> usize
-    requires { (is_condition e.code ≡ true → 2 ≤ top) × (top ≤ length spans.old) }
-    ensures { Moved spans.old top result spans.new (spans_after e (spans_in (drop top spans.old))) (2 * weigh (is_node e.code)) }
+pub fn pass_entry(around: &mut ArrayVec<Around, 17>, e: Head)
+    requires { (array_vec_len around.old ≤ 17) × (is_condition e.code ≡ true → array_vec_len around.old < 17) }
+    ensures { Moved around.old.items around.new.items (spans_after e (spans_in (reverse around.old.items))) (weigh (is_node e.code)) }
 {
     if is_condition(e.code) {
-        let next = take_item(spans, top);
-        add_items(spans, next, items_of(e.code, e.args), e.value)
+        take_item(around);
+        add_items(around, items_of(e.code, e.args), e.value);
     } else if ends_item(e.code) {
-        take_item(spans, top)
-    } else {
-        top
+        take_item(around);
     }
 }

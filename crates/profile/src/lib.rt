@@ -2,7 +2,7 @@
 // only intervals from 0 to one day. The entries are looked at in their order, once, and the first broken rule is answered.
 #![tactic(auto)]
 
-ghost use Rattle.std.specs.Prelude.{[], ◌≡◌, ◌≤◌, ◌<◌, length, drop, replicate};
+ghost use Rattle.std.specs.Prelude.{[], ◌≡◌, ◌<◌, reverse, replicate};
 ghost use Rattle.std.proofs.Math.Option.{some};
 ghost use Rattle.definition.specs.Outcome.{refusal};
 ghost use Rattle.definition.specs.Profile.{profile_answer};
@@ -11,9 +11,10 @@ ghost use Rattle.answer.specs.Matches.{answer_with};
 ghost use Rattle.profile.specs.Entries.{args_at, head_at, broken_rule, profile_all, profile_in, profiled};
 ghost use Rattle.profile.specs.Spans.{spans_in};
 
-use crate::around::{Head, nearest, pass_entry};
+use crate::around::{Around, Head, nearest, pass_entry};
 use crate::rules::{Rule, broken_by, counted};
 use answer::Answer;
+use arrayvec::ArrayVec;
 use de_morgan::{none_on, rewritten_in};
 use grammar::codes::CONDITION;
 use nodes::span_of;
@@ -63,31 +64,30 @@ fn head_at(held: &HeldTape, at: usize) -> Head
 
 // The refusal of a broken rule: an interval's has the span of the nearest condition around it.
 #[tactic(auto, unfolding(crate::specs::Entries::broken_rule))]
-fn refuse(rule: Rule, spans: &[u64], top: usize) -> Answer
-    requires { top ≤ length spans.now }
-    ensures { answer_with result [] [] [] ≡ profiled (broken_rule rule (spans_in (drop top spans.now))) }
+fn refuse(rule: Rule, around: &[Around]) -> Answer
+    ensures { answer_with result [] [] [] ≡ profiled (broken_rule rule (spans_in (reverse around.now))) }
 {
     match rule {
         Rule::NoAggregate => end(numbers::AGGREGATE, 0),
         Rule::SixteenNodes => end(numbers::TOO_MANY_NODES, 0),
-        Rule::WithinDay => end(numbers::TOO_LONG_INTERVAL, nearest(spans, top)),
+        Rule::WithinDay => end(numbers::TOO_LONG_INTERVAL, nearest(around)),
     }
 }
 
-// The entries of a layout in their order. `spans` has room for the spans of 17 conditions, and one item is to come, the whole.
+// The entries of a layout in their order. One item is to come at first, the whole, and each of the 16 nodes adds a condition at the most.
 #[tactic(auto, using(crate::proofs::Turns::room, crate::proofs::Turns::stopped, crate::proofs::Turns::went_on, crate::proofs::Turns::ended_well))]
-fn profile_entries(held: &HeldTape, spans: &mut [u64]) -> Answer
-    requires { spans.old ≡ replicate 34 0 }
+fn profile_entries(held: &HeldTape) -> Answer
     ensures { answer_with result [] [] [] ≡ profiled (profile_all held.now.tape.bytes.now held.now.tape.layout) }
 {
     let mut nodes: u64 = 0;
-    let mut top: usize = 32;
+    let mut around = ArrayVec::<Around, 17>::new();
+    around.push(Around::default());
     for at in 0..held.entries() {
         let e = head_at(held, at);
         if let Some(rule) = broken_by(nodes, e) {
-            return refuse(rule, spans, top);
+            return refuse(rule, around.as_slice());
         }
-        top = pass_entry(spans, top, e);
+        pass_entry(&mut around, e);
         nodes = counted(nodes, e.code);
     }
     end(numbers::OK, 0)
@@ -101,8 +101,7 @@ fn profile_in(tape: &Tape) -> Answer
     let Some(held) = tape.held() else {
         return end(numbers::OK, 0);
     };
-    let mut spans = [0u64; 34];
-    profile_entries(&held, &mut spans)
+    profile_entries(&held)
 }
 
 // The same of the rewritten tape, for which there is room here: most tapes have no Or. One function that is handed a closure for all

@@ -28,7 +28,7 @@ use Rattle.definition.specs.Provider.{turn, turned, turning_answer, argument_to_
 use Rattle.definition.proofs.ProviderTapes.{argument_of}
 use Rattle.grammar.specs.Grammar.{term}
 use Rattle.grammar.specs.Provider as sort
-use Rattle.grammar.specs.Words.{provider_words}
+use Rattle.grammar.specs.Words.{provider_grammar}
 use Rattle.tape.specs.Accept.{accept_by, accept_of}
 use Rattle.tape.specs.Header.{fault_number}
 use Rattle.tape.specs.Layouts.{tape_layout}
@@ -143,11 +143,11 @@ abbrev passed : Outcome (Unit {0})
 passed = Outcome.done tt 0
 
 module _ (s : List ℕ) (bytes : Bytes s) {a : Answer} where
-  pub provider_accepted : {l : Layout} → accept_by provider_words 64 s sort.root ≡ Ok l → a ≡ ended (result_alone 0) (number_alone 0) → a ≡ provider_answer s
+  pub provider_accepted : {l : Layout} → accept_by provider_grammar 64 s sort.root ≡ Ok l → a ≡ ended (result_alone 0) (number_alone 0) → a ≡ provider_answer s
   unfolding provider_answer reading ended open_answers open_outcome
   provider_accepted e k = let x = accepted_by provider_root lawful_provider s bytes (answers provider_root_lem s) e in rw x.1 k
 
-  pub provider_refused : {f : Fault} → accept_by provider_words 64 s sort.root ≡ Err f → a ≡ ended (result_alone 0) (number_alone (fault_number f)) → a ≡ provider_answer s
+  pub provider_refused : {f : Fault} → accept_by provider_grammar 64 s sort.root ≡ Err f → a ≡ ended (result_alone 0) (number_alone (fault_number f)) → a ≡ provider_answer s
   unfolding provider_answer ended
   provider_refused e k = rw (refused_by provider_root lawful_provider s bytes (answers provider_root_lem s) (λ (p : Provider). passed) e) k
 
@@ -159,13 +159,13 @@ module _ (n : ℕ) (s : List ℕ) {a : Answer} where
   argument_short = turning_short (accept argument_root) argument_to_term flat_term 56 n s
 
   module _ (bytes : Bytes s) (long : 12296 ≤ n) where
-    pub argument_refused : {f : Fault} → accept_by provider_words 64 s sort.argument ≡ Err f → a ≡ ended (result_alone n) (number_alone (fault_number f))
+    pub argument_refused : {f : Fault} → accept_by provider_grammar 64 s sort.argument ≡ Err f → a ≡ ended (result_alone n) (number_alone (fault_number f))
         → a ≡ argument_to_term_answer n s
     unfolding argument_to_term_answer
     argument_refused {f} e =
         turning_refused (accept argument_root) argument_to_term flat_term 56 n s (fault_number f) long (refused_by argument_root lawful_argument s bytes (answers argument_root_lem s) (λ x. turned 56 (argument_to_term x)) e)
 
-    pub argument_given : {l : Layout} → accept_by provider_words 64 s sort.argument ≡ Ok l → AnswersTurned ToTerm 56 s l n a
+    pub argument_given : {l : Layout} → accept_by provider_grammar 64 s sort.argument ≡ Ok l → AnswersTurned ToTerm 56 s l n a
         → a ≡ argument_to_term_answer n s
     unfolding AnswersTurned argument_to_term_answer argument_root reading
     argument_given {l} e h =

@@ -1,6 +1,7 @@
 -- A tape with other codes: what an argument's become as a term's, and back. Values and text stay as they are.
 -- Assumes nothing.
-use Rattle.std.specs.Prelude.{ℕ, ◌+◌, ◌≤◌, ◌≡◌, List, [], ◌∷◌, map, Bool, false, ◌||◌, eqb, length, Option, Some, None}
+use Rattle.std.specs.Prelude.{ℕ, ◌+◌, ◌≤◌, ◌≡◌, List, map, Bool, eqb, length, Option, Some, None}
+use Rattle.std.specs.List.{list_any}
 use Rattle.std.specs.Option.{is_none, unwrap_or}
 use Rattle.std.proofs.Math.Option.{Option as Maybe, none, some}
 use Rattle.std.proofs.lemmas.List.Edits.{sets}
@@ -34,8 +35,12 @@ turned_or_0 way c = unwrap_or (turned_code way c) 0
 
 -- one of the codes becomes none
 abbrev pub any_lost : Way → List ℕ → Bool
-any_lost way [] = false
-any_lost way (c ∷ cs) = is_none (turned_code way c) || any_lost way cs
+any_lost way = list_any (λ c. is_none (turned_code way c))
+
+-- the number of the answer then: a field, or no argument
+abbrev pub lost_number : Way → ℕ
+lost_number ToTerm = 56
+lost_number ToArgument = 58
 
 -- a buffer with a tape in it, other codes in the place of its own, and zeros behind it
 abbrev pub turned_on : List ℕ → List ℕ → List ℕ → List ℕ

@@ -4,10 +4,10 @@
 ghost use Rattle.std.specs.Prelude.{[], map, ◌≡◌, length};
 ghost use Rattle.std.proofs.lemmas.List.Edits.{sets};
 ghost use Rattle.definition.specs.Provider.{provider_answer, argument_to_term_answer, term_to_argument_answer};
-ghost use Rattle.grammar.specs.Words.{provider_words};
+ghost use Rattle.grammar.specs.Words.{provider_grammar};
 ghost use Rattle.tape.specs.Accept.{accept_by};
 ghost use Rattle.answer.specs.Matches.{answer_with};
-ghost use Rattle.provider.specs.Turned.{term_code, argument_code, turned_code, turned_or_0, any_lost, turned_on, AnswersTurned};
+ghost use Rattle.provider.specs.Turned.{term_code, argument_code, turned_code, turned_or_0, any_lost, lost_number, turned_on, AnswersTurned};
 
 use answer::{Answer, refuse_result, result_written};
 use buffer::{write, zero_from};
@@ -22,10 +22,23 @@ use tape::part::part_of;
 mod argument;
 
 // Which of the two a tape's codes become.
+// An enum and no closure: the contract maps a function over the codes, and what a closure promises is a relation.
 #[derive(Clone, Copy, Debug, PartialEq, Eq)]
 enum Way {
     ToTerm,
     ToArgument,
+}
+
+impl Way {
+    // The number of the answer where a code becomes none.
+    fn number(self) -> u32
+        ensures { result ≡ lost_number self }
+    {
+        match self {
+            Way::ToTerm => numbers::HAS_A_FIELD,
+            Way::ToArgument => numbers::NOT_AN_ARGUMENT,
+        }
+    }
 }
 
 // The code of the term that an argument of a code becomes, if there is one.
@@ -70,20 +83,15 @@ fn turned_code(way: Way, code: u8) -> Option<u8>
 fn any_lost(way: Way, codes: &[u8]) -> bool
     ensures { result ≡ any_lost way codes.now }
 {
-    for &code in codes {
-        if turned_code(way, code).is_none() {
-            return true;
-        }
-    }
-    false
+    codes.iter().any(|&code| turned_code(way, code).is_none())
 }
 
 // Writes what the codes become where a tape has its codes: behind the two sizes.
 fn write_codes(way: Way, codes: &[u8], res: &mut [u8])
     ensures { res.new ≡ sets res.old 8 (map (turned_or_0 way) codes.now) }
 {
-    for i in 0..codes.len() {
-        let code = turned_code(way, codes[i]).unwrap_or(0);
+    for (i, &code) in codes.iter().enumerate() {
+        let code = turned_code(way, code).unwrap_or(0);
         write(res, 8 + i, &[code]);
     }
 }
@@ -99,12 +107,12 @@ fn write_turned(way: Way, bytes: &[u8], codes: &[u8], res: &mut [u8])
 
 // The answer of a tape turned; or a number, where one of its codes becomes none.
 #[tactic(auto, using(crate::proofs::Operation::in_lost, crate::proofs::Operation::in_turned))]
-fn turn(way: Way, number: u32, tape: &Tape, res: &mut [u8]) -> Answer
-    ensures { AnswersTurned way number tape.now.bytes.now tape.now.layout (length res.old) (answer_with result res.new [] []) }
+fn turn(way: Way, tape: &Tape, res: &mut [u8]) -> Answer
+    ensures { AnswersTurned way (lost_number way) tape.now.bytes.now tape.now.layout (length res.old) (answer_with result res.new [] []) }
 {
     let codes = part_of(tape.bytes, tape.layout.codes, tape.layout.entries);
     if any_lost(way, codes) {
-        return refuse_result(number, res);
+        return refuse_result(way.number(), res);
     }
     write_turned(way, tape.bytes, codes, res);
     result_written()
@@ -112,10 +120,9 @@ fn turn(way: Way, number: u32, tape: &Tape, res: &mut [u8]) -> Answer
 
 // The acceptance of a provider tape whose root is of a sort. The longest text has 64 bytes, or 255.
 fn accept_provider(bytes: &[u8], sort: u64) -> Result<Layout, Fault>
-    ensures { result ≡ accept_by provider_words 64 bytes.now sort }
+    ensures { result ≡ accept_by provider_grammar 64 bytes.now sort }
 {
-    let grammar = table();
-    accept_by(&grammar, 64, bytes, sort)
+    accept_by(table(), 64, bytes, sort)
 }
 
 // The operation without buffers: whether the tape is one of a provider call or of a lone argument.
@@ -137,12 +144,7 @@ pub fn argument_to_term(bytes: &[u8], res: &mut [u8]) -> Answer
         return refuse_result(numbers::SHORT_BUFFER, res);
     }
     match accept_provider(bytes, ARGUMENT) {
-        Ok(layout) => turn(
-            Way::ToTerm,
-            numbers::HAS_A_FIELD,
-            &Tape { bytes, layout },
-            res,
-        ),
+        Ok(layout) => turn(Way::ToTerm, &Tape { bytes, layout }, res),
         Err(fault) => refuse_result(fault.number(), res),
     }
 }
@@ -157,12 +159,7 @@ pub fn term_to_argument(bytes: &[u8], res: &mut [u8]) -> Answer
         return refuse_result(numbers::SHORT_BUFFER, res);
     }
     match accept(bytes, TERM) {
-        Ok(layout) => turn(
-            Way::ToArgument,
-            numbers::NOT_AN_ARGUMENT,
-            &Tape { bytes, layout },
-            res,
-        ),
+        Ok(layout) => turn(Way::ToArgument, &Tape { bytes, layout }, res),
         Err(fault) => refuse_result(fault.number(), res),
     }
 }

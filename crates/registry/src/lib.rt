@@ -72,7 +72,8 @@ fn width_at(tape: &Tape, at: usize, code: u8) -> u64
     if is_text(code) { tape.value_at(at) } else { 0 }
 }
 
-// The rows of the entries with the code 60, as many as the table holds, and their number.
+// Writes the rows of the entries with the code 60 to a table, as many as it holds, and answers how many there are. A 60 stands nowhere but
+// where a definition begins.
 #[tactic(auto, using(crate::proofs::Steps::index_start, crate::proofs::Steps::index_noted, crate::proofs::Steps::index_full, crate::proofs::Steps::index_other))]
 fn index_from(held: &HeldTape, rows: &mut [Row]) -> usize
     ensures written { take result rows.new ≡ take (length rows.old) (rows_from held.now.tape.bytes.now held.now.tape.layout held.now.tape.layout.entries origin) }
@@ -97,18 +98,6 @@ fn index_from(held: &HeldTape, rows: &mut [Row]) -> usize
         }
     }
     n
-}
-
-// Writes the rows of a registry's definitions to a table, and answers how many there are. A 60 stands nowhere else.
-#[tactic(auto, unfolding(crate::specs::Places::index_at))]
-pub fn index(tape: &Tape, rows: &mut [Row]) -> usize
-    ensures written { take result rows.new ≡ index_at tape.now.bytes.now tape.now.layout (length rows.old) }
-    ensures inside { result ≤ length rows.old }
-{
-    match tape.held() {
-        Some(held) => index_from(&held, rows),
-        None => 0,
-    }
 }
 
 // Whether a name is one of four. One table with `contains` was slower: 624 instructions a name, where these four calls take 394.
@@ -147,17 +136,11 @@ fn check_name(tape: &Tape, seen: &[Row], p: Place) -> Result<(), Refused>
     }
 }
 
-// The names of a registry. A tape has 1,024 entries at the most, and a definition four at the least: 255 definitions.
+// The names of a registry.
 fn check_registry(tape: &Tape) -> Result<(), Refused>
     ensures { result ≡ build_at tape.now.bytes.now tape.now.layout (index_at tape.now.bytes.now tape.now.layout 255) }
 {
-    let mut rows = [Row::EMPTY; 255];
-    let count = index(tape, &mut rows);
-    let index = Index {
-        tape: *tape,
-        rows: &rows[..count],
-    };
-    index.check_names()
+    Index::new(tape, &mut [Row::EMPTY; 255]).check_names()
 }
 
 // 1 for a message buffer below 2,048 bytes, then the tape, then the names.

@@ -1,8 +1,8 @@
 // The rows of a registry's definitions: where each stands, and the key of its name, by which a name is looked for.
-ghost use Rattle.std.specs.Prelude.{◌≡◌};
-ghost use Rattle.registry.specs.Places.{end_of, get_at, build_at};
+ghost use Rattle.std.specs.Prelude.{◌≡◌, length};
+ghost use Rattle.registry.specs.Places.{end_of, index_at, get_at, build_at};
 
-use crate::{check_name, key_of};
+use crate::{check_name, index_from, key_of};
 use grammar::code;
 use messages::Refused;
 use nodes::{Heading, name_at, read_heading};
@@ -25,12 +25,31 @@ impl Row {
 
 // A registry's tape, and the rows of its definitions in their order.
 #[derive(Clone, Copy, Debug)]
-pub struct Index<'a> {
+pub struct Index<'a, 'b> {
     pub tape: Tape<'a>,
-    pub rows: &'a [Row],
+    pub rows: &'b [Row],
 }
 
-impl Index<'_> {
+impl<'a, 'b> Index<'a, 'b> {
+    // The index of a registry, whose rows stand in a lent table. A tape has 1,024 entries at the most, and a definition four at the least,
+    // so 255 rows are room enough. A vector of the index's own would be copied, 6 KB, wherever the index is moved.
+    #[tactic(auto, unfolding(crate::specs::Places::index_at))]
+    pub fn new(tape: &Tape<'a>, table: &'b mut [Row]) -> Index<'a, 'b>
+        ensures tape { result.tape ≡ tape.now }
+        ensures rows { result.rows.now ≡ index_at tape.now.bytes.now tape.now.layout (length table.old) }
+    {
+        let count = match tape.held() {
+            Some(held) => index_from(&held, table),
+            None => 0,
+        };
+        Index {
+            tape: *tape,
+            rows: &table[..count],
+        }
+    }
+}
+
+impl Index<'_, '_> {
     // `Registry::get`: the first definition of a name, the place behind its heading, and the entry where it ends.
     pub fn get(&self, name: &[u8]) -> Option<(Heading, Place, usize)>
         ensures { result ≡ get_at self.now.tape.bytes.now self.now.tape.layout self.now.rows.now name.now }

@@ -16,12 +16,13 @@ use expansion::Expanded;
 use grammar::codes::DEFINITIONS;
 use nodes::Heading;
 use registry::counts::Counts;
-use registry::{Index, Row, index};
+use registry::{Index, Row};
 use tape::accept::accept;
 use tape::layout::{Layout, Place, Tape, of_area};
 
 // What building a registry came to: the operation's answer, and how an accepted tape is laid out. The state is none of it: it is the
 // caller's, who has it first from `registry::counts::fresh`, and then from each expansion.
+// `expand` answers for a refused registry too, as the operation does; a Result would take that away.
 #[derive(Clone, Copy, Debug, PartialEq, Eq)]
 pub struct Built {
     pub answer: Answer,
@@ -55,20 +56,14 @@ fn build(tape: &[u8], message: &mut [u8]) -> Built
 fn find_at(tape: &Tape, name: &[u8]) -> Option<(Heading, Place, usize)>
     ensures { result ≡ get_at tape.now.bytes.now tape.now.layout (index_at tape.now.bytes.now tape.now.layout 255) name.now }
 {
-    let mut rows = [Row::EMPTY; 255];
-    let count = index(tape, &mut rows);
-    let index = Index {
-        tape: *tape,
-        rows: &rows[..count],
-    };
-    index.get(name)
+    Index::new(tape, &mut [Row::EMPTY; 255]).get(name)
 }
 
 // The definition of a name in a registry that passed; one that did not holds none.
 fn find(tape: &[u8], built: Built, name: &[u8]) -> Option<(Heading, Place, usize)>
     ensures { GetMatches tape.now built name.now result }
 {
-    let refused = built.answer.number != 0;
+    let refused = built.answer.number != numbers::OK;
     if refused {
         return None;
     }

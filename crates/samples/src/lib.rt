@@ -12,6 +12,7 @@ pub fn registry(tape: &mut [u8]) -> usize {
 }
 
 // The tape of a case's condition, and its length. Case 15 is e(1, 2), and case 16 what it becomes.
+// The number is the input: the case as document 01 counts them.
 pub fn condition(case: u32, tape: &mut [u8]) -> usize {
     let mut sheet = Sheet::blank();
     sheet.input(case);

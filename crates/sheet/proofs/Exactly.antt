@@ -18,10 +18,10 @@ use Rattle.definition.specs.Answers.{Answer, answer, message_alone, number_alone
 use Rattle.definition.specs.Kept.{Bounded}
 use Rattle.definition.proofs.Kept.{registry_bounded, bounded_number_alone}
 use Rattle.answer.specs.Matches.{ended}
-use Rattle.sheet.specs.Sheet.{conditions_of, sheet_of, size_of, begins_with_one, first_of, width_of, filled_by, over, filled, sheet_number, sheet_open_answer}
+use Rattle.sheet.specs.Sheet.{conditions_of, sheet_of, size_of, begins_with_one, first_of, width_of, filled_by, over, filled, checked, sheet_number, sheet_open_answer}
 use Rattle.sheet.specs.Promises.{IsSheet, SheetsAreOpened, OpenedAreSheets, OpenBounded}
 use Rattle.sheet.proofs.Front.{tells_one, one_stands, first_one, width_one}
-use Rattle.sheet.proofs.Opening.{number_filled, open_registry_refused, open_sheet_refused, open_passes}
+use Rattle.sheet.proofs.Opening.{check_filled, number_passed, open_registry_refused, open_sheet_refused, open_passes}
 
 -- ------------------------------------------------------------------ a condition behind its length
 
@@ -105,8 +105,8 @@ module _ (sheet : List ℕ) (cs : List (List ℕ)) (h : IsSheet sheet cs) where
 
   sheet_number_lem : sheet_number sheet ≡ 0
   sheet_number_lem =
-      sym
-      (number_filled sheet h.short (omega (arith, sheet_length)) (omega (arith, counted, h.few)) refl
+      number_passed sheet
+      (check_filled sheet h.short (omega (arith, sheet_length)) (omega (arith, counted, h.few)) refl
       (ap (filled_by (size_of sheet)) (take_all (length sheet - 4) (drop 4 sheet) (omega (arith, length-drop 4 sheet)))
       ∙ ap (λ (n : ℕ). filled_by n (drop 4 sheet)) (sym counted)
       ∙ conditions_fill cs (drop 4 sheet) behind_count (omega (arith, length-drop 4 sheet, h.short))))
@@ -170,20 +170,20 @@ module _ (m : ℕ) (registry sheet : List ℕ) (e : (sheet_open_answer m registr
 
 module _ (s : List ℕ) (e : sheet_number s ≡ 0) where
   not_over : over s ≡ false
-  unfolding sheet_number
+  unfolding sheet_number checked
   not_over = go (over s) refl
     where
       go : (t : Bool) → over s ≡ t → over s ≡ false
-      go true h = absurd (let z : ◌≡◌ {A = ℕ} 57 0 = sym (rw (sheet_number, h) refl) ∙ e in omega arith)
+      go true h = absurd (let z : ◌≡◌ {A = ℕ} 57 0 = sym (rw (sheet_number, checked, h) refl) ∙ e in omega arith)
       go false h = h
 
   is_filled : filled s ≡ true
-  unfolding sheet_number
+  unfolding sheet_number checked
   is_filled = go (filled s) refl
     where
       go : (t : Bool) → filled s ≡ t → filled s ≡ true
       go true h = h
-      go false h = absurd (let z : ◌≡◌ {A = ℕ} 2 0 = sym (rw (sheet_number, not_over, h) refl) ∙ e in omega arith)
+      go false h = absurd (let z : ◌≡◌ {A = ℕ} 2 0 = sym (rw (sheet_number, checked, not_over, h) refl) ∙ e in omega arith)
 
   has_count : 4 ≤ length s
   unfolding filled

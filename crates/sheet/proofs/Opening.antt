@@ -1,4 +1,4 @@
--- The number of a sheet, and the answers with which one is opened: a law for each way of returning.
+-- The check of a sheet, its number, and the answers with which one is opened: a law for each way of returning.
 -- Assumes nothing.
 use Prim.Native.Nat.{ℕ, ◌-◌, ◌≤◌, ◌<◌}
 use mathlib.Core.Path.{◌≡◌, refl, sym, ap, ◌∙◌}
@@ -13,14 +13,17 @@ use Rattle.format.specs.Tape.{Bytes}
 use Rattle.definition.specs.Answers.{Answer, answer, message_alone, number_alone, message_answer, registry_answer}
 use Rattle.definition.proofs.Kept.{registry_bounded}
 use Rattle.answer.specs.Matches.{ended}
-use Rattle.sheet.specs.Sheet.{size_of, filled_by, over, filled, sheet_number, sheet_open_answer, conditions_left, sheet_open_progress}
+use Rattle.std.specs.Prelude.{Result, Ok, Err}
+use Rattle.sheet.specs.declared.SheetFault.{SheetFault}
+use Rattle.sheet.specs.declared.SheetFault.TheVariants.{TooLarge, Malformed}
+use Rattle.sheet.specs.Sheet.{size_of, filled_by, over, filled, checked, fault_number, checked_number, sheet_number, sheet_open_answer, conditions_left, sheet_open_progress}
 
--- ------------------------------------------------------------------ the number
+-- ------------------------------------------------------------------ the check
 
 module _ (s : List ℕ) where
-  pub number_long : 65536 < length s → 57 ≡ sheet_number s
-  unfolding sheet_number over
-  number_long h = sym (rw (sheet_number, le-leb 65537 (length s) (omega arith)) refl)
+  pub check_long : 65536 < length s → Err TooLarge ≡ checked s
+  unfolding checked over
+  check_long h = sym (rw (checked, le-leb 65537 (length s) (omega arith)) refl)
 
   module _ (short : length s ≤ 65536) where
     module _ (few : length s < 4) where
@@ -32,15 +35,15 @@ module _ (s : List ℕ) where
       unfolding filled
       few_not_filled = rw (lt-leb 4 (length s) few) refl
 
-      pub number_few : 2 ≡ sheet_number s
-      unfolding sheet_number
-      number_few = sym (rw (sheet_number, few_not_over, few_not_filled) refl)
+      pub check_few : Err Malformed ≡ checked s
+      unfolding checked
+      check_few = sym (rw (checked, few_not_over, few_not_filled) refl)
 
     module _ (counted : 4 ≤ length s) where
-      pub number_many : 32 < size_of s → 57 ≡ sheet_number s
-      unfolding sheet_number over
-      number_many h =
-          sym (rw (sheet_number, lt-leb 65537 (length s) (omega arith), le-leb 4 (length s) counted, le-leb 33 (size_of s) (omega arith)) refl)
+      pub check_many : 32 < size_of s → Err TooLarge ≡ checked s
+      unfolding checked over
+      check_many h =
+          sym (rw (checked, lt-leb 65537 (length s) (omega arith), le-leb 4 (length s) counted, le-leb 33 (size_of s) (omega arith)) refl)
 
       module _ (few : size_of s ≤ 32) where
         not_over : over s ≡ false
@@ -56,13 +59,27 @@ module _ (s : List ℕ) where
             let all : take (length s - 4) (drop 4 s) ≡ drop 4 s = take_all (length s - 4) (drop 4 s) (omega (arith, length-drop 4 s)) in
             told_filled _ (ap (filled_by (size_of s)) (sym all) ∙ sym q ∙ h)
 
-        pub number_filled : {t : Bool} → t ≡ filled_by (size_of s) (take (length s - 4) (drop 4 s)) → t ≡ true → 0 ≡ sheet_number s
-        unfolding sheet_number
-        number_filled q h = sym (rw (sheet_number, not_over, told q h) refl)
+        pub check_filled : {t : Bool} → t ≡ filled_by (size_of s) (take (length s - 4) (drop 4 s)) → t ≡ true → Ok tt ≡ checked s
+        unfolding checked
+        check_filled q h = sym (rw (checked, not_over, told q h) refl)
 
-        pub number_not_filled : {t : Bool} → t ≡ filled_by (size_of s) (take (length s - 4) (drop 4 s)) → t ≡ false → 2 ≡ sheet_number s
-        unfolding sheet_number
-        number_not_filled q h = sym (rw (sheet_number, not_over, told q h) refl)
+        pub check_not_filled : {t : Bool} → t ≡ filled_by (size_of s) (take (length s - 4) (drop 4 s)) → t ≡ false → Err Malformed ≡ checked s
+        unfolding checked
+        check_not_filled q h = sym (rw (checked, not_over, told q h) refl)
+
+-- ------------------------------------------------------------------ the number
+
+pub number_passed : (s : List ℕ) → Ok tt ≡ checked s → sheet_number s ≡ 0
+unfolding sheet_number
+number_passed s e = ap checked_number (sym e)
+
+pub number_fault : (s : List ℕ) {f : SheetFault} → Err f ≡ checked s → fault_number f ≡ sheet_number s
+unfolding sheet_number
+number_fault s e = ap checked_number e
+
+pub fault_not_none : (f : SheetFault) → fault_number f ≡ 0 → ⊥
+fault_not_none TooLarge e = omega arith
+fault_not_none Malformed e = omega arith
 
 -- ------------------------------------------------------------------ the answer
 
@@ -91,6 +108,9 @@ module _ (m : ℕ) (registry sheet : List ℕ) {a : Answer} (e : a ≡ registry_
         e
         ∙ sym (rw (sheet_open_answer, eq-eqb (registry_answer m registry).number 0 as_built, eq-eqb (sheet_number sheet) 0 k) refl)
 
+    pub open_checked : Ok tt ≡ checked sheet → a ≡ sheet_open_answer m registry sheet
+    open_checked k = open_passes (number_passed sheet k)
+
     pub open_sheet_refused : {n : ℕ} {r : Answer} → n ≡ sheet_number sheet → (n ≡ 0 → ⊥) → r ≡ ended (message_alone m) (number_alone n)
         → r ≡ sheet_open_answer m registry sheet
     unfolding sheet_open_answer message_answer ended
@@ -107,18 +127,15 @@ module _ (m : ℕ) (registry sheet : List ℕ) {a : Answer} (e : a ≡ registry_
         ) refl)
 
     -- the message buffer is as long behind the registry's answer as before it
-    pub open_sheet_refused_behind : Bytes registry → {n : ℕ} {r : Answer} → n ≡ sheet_number sheet → (n ≡ 0 → ⊥)
+    pub open_fault_behind : Bytes registry → {f : SheetFault} {n : ℕ} {r : Answer} → Err f ≡ checked sheet → n ≡ fault_number f
         → r ≡ ended (message_alone (length a.message)) (number_alone n) → r ≡ sheet_open_answer m registry sheet
-    open_sheet_refused_behind bytes {n} q k r =
+    open_fault_behind bytes {f} {n} k q r =
         let long : length a.message ≡ m =
         ap (λ (x : Answer). length x.message) e ∙ (registry_bounded m registry bytes).whole_message in
-        open_sheet_refused q k (r ∙ ap (λ (x : ℕ). ended (message_alone x) (number_alone n)) long)
+        open_sheet_refused (q ∙ number_fault sheet k) (λ z. fault_not_none f (sym q ∙ z))
+        (r ∙ ap (λ (x : ℕ). ended (message_alone x) (number_alone n)) long)
 
 -- ------------------------------------------------------------------ the state
-
-pub none_left : (n : ℕ) (sheet : List ℕ) → (n ≡ 0 → ⊥) → 0 ≡ conditions_left n sheet
-unfolding conditions_left
-none_left n sheet h = sym (rw (conditions_left, ne_eqb n 0 h) refl)
 
 pub all_left : (n : ℕ) (sheet : List ℕ) {k : ℕ} → n ≡ 0 → k ≡ size_of sheet → k ≡ conditions_left n sheet
 unfolding conditions_left

@@ -1,12 +1,14 @@
 -- Document 02, point 13: the house sheet. What a sheet is, what opening one answers, and what each step answers and leaves. All of it is
 -- said by the answers of registry and expansion. The theorems are in proofs/Promises.antt and proofs/Exactly.antt.
 -- Assumes nothing.
-use Rattle.std.specs.Prelude.{ℕ, zero, suc, ◌+◌, ◌-◌, min, List, [], ◌∷◌, ◌++◌, Bool, true, false, ◌&&◌, ◌||◌, leb, eqb, length, take, drop}
+use Rattle.std.specs.Prelude.{ℕ, zero, suc, ◌+◌, ◌-◌, min, List, [], ◌∷◌, ◌++◌, Bool, true, false, ◌&&◌, ◌||◌, leb, eqb, length, take, drop, Result, Ok, Err}
 use Rattle.format.specs.Entry.{le}
 use Rattle.format.specs.Tape.{from_le}
 use Rattle.definition.specs.Answers.{Answer, Buffers, number_alone, tree_answer, message_answer, registry_answer, expand_answer}
 use Rattle.definition.specs.Counts.{expand_counts}
 use Rattle.sheet.specs.declared.Progress.{Progress}
+use Rattle.sheet.specs.declared.SheetFault.{SheetFault}
+use Rattle.sheet.specs.declared.SheetFault.TheVariants.{TooLarge, Malformed}
 
 -- ------------------------------------------------------------------ a sheet
 
@@ -52,9 +54,22 @@ over sheet = leb 65537 (length sheet) || (leb 4 (length sheet) && leb 33 (size_o
 unfoldable pub filled : List ℕ → Bool
 filled sheet = leb 4 (length sheet) && filled_by (size_of sheet) (drop 4 sheet)
 
--- "57 ..; then 2"
+-- "57 ..; then 2", as refusals with names
+unfoldable pub checked : List ℕ → Result Unit SheetFault
+checked sheet = elim (over sheet) [ true ↦ Err TooLarge | false ↦ elim (filled sheet) [ true ↦ Ok tt | false ↦ Err Malformed ] ]
+
+-- the number of a refusal
+abbrev pub fault_number : SheetFault → ℕ
+fault_number TooLarge = 57
+fault_number Malformed = 2
+
+-- .. and 0 where there is none
+abbrev pub checked_number : Result Unit SheetFault → ℕ
+checked_number (Ok tt) = 0
+checked_number (Err f) = fault_number f
+
 unfoldable pub sheet_number : List ℕ → ℕ
-sheet_number sheet = elim (over sheet) [ true ↦ 57 | false ↦ elim (filled sheet) [ true ↦ 0 | false ↦ 2 ] ]
+sheet_number sheet = checked_number (checked sheet)
 
 -- "after the registry's refusals". The message buffer is the only one, as the registry's.
 unfoldable pub sheet_open_answer : (message_length : ℕ) (registry sheet : List ℕ) → Answer
@@ -128,6 +143,6 @@ sheet_next_counts b registry sheet p counts =
 -- Whoever unfolds this unfolds every definition of this file.
 unfoldable pub open_sheet : Unit {0}
 unfolding
-    conditions_of sheet_of size_of begins_with_one first_of width_of filled_by over filled sheet_number sheet_open_answer conditions_left sheet_open_progress
+    conditions_of sheet_of size_of begins_with_one first_of width_of filled_by over filled checked sheet_number sheet_open_answer conditions_left sheet_open_progress
     limit_of file_of next_condition expansion_answer expansion_counts sheet_next_answer behind_next sheet_next_progress sheet_next_counts
 open_sheet = tt

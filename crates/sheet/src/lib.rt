@@ -3,10 +3,10 @@
 // registry and expansion alone.
 #![tactic(auto)]
 
-ghost use Rattle.std.specs.Prelude.{◌≡◌, [], ◌+◌, ◌-◌, ◌≤◌, length, drop};
+ghost use Rattle.std.specs.Prelude.{◌≡◌, [], ◌+◌, ◌-◌, ◌≤◌, length, drop, true, false, MatchOption};
 ghost use Rattle.answer.specs.Matches.{answer_with, buffers};
 ghost use Rattle.definition.specs.Answers.{tree_answer, number_alone};
-ghost use Rattle.sheet.specs.Sheet.{begins_with_one, first_of, width_of, filled_by, sheet_number, sheet_open_answer, conditions_left, sheet_open_progress, limit_of, file_of, expansion_answer, expansion_counts, sheet_next_answer, sheet_next_progress, sheet_next_counts};
+ghost use Rattle.sheet.specs.Sheet.{begins_with_one, first_of, width_of, filled_by, checked, sheet_open_answer, conditions_left, sheet_open_progress, limit_of, file_of, expansion_answer, expansion_counts, sheet_next_answer, sheet_next_progress, sheet_next_counts};
 
 use answer::{Answer, long_buffers, number_alone, refuse_number};
 use buffer::read_size;
@@ -30,35 +30,12 @@ pub struct Step {
     pub progress: Progress,
 }
 
-// Whether a condition stands at the front of `s`: a 4-byte length, and that many bytes behind it.
-#[tactic(auto, unfolding(crate::specs::Sheet::begins_with_one, crate::specs::Sheet::size_of))]
-fn begins_with_one(s: &[u8]) -> bool
-    ensures { result ≡ begins_with_one s.now }
+// The condition at the front of `s`, if one stands there, and what lies behind it: a 4-byte length, and that many bytes.
+fn split_condition(s: &[u8]) -> Option<(&[u8], &[u8])>
+    ensures { MatchOption result (begins_with_one s.now ≡ false) (λ p. (begins_with_one s.now ≡ true) × (p.0.now ≡ first_of s.now) × (p.1.now ≡ drop (width_of s.now) s.now)) }
 {
-    4 <= s.len() && read_size(s, 0) as usize <= s.len() - 4
-}
-
-// That condition, or an empty one where there is none.
-#[tactic(auto, using(crate::proofs::Front::one_stands, crate::proofs::Front::first_part), unfolding(crate::specs::Sheet::first_of, crate::specs::Sheet::size_of))]
-fn first_of(s: &[u8]) -> &[u8]
-    ensures { result.now ≡ first_of s.now }
-{
-    if !begins_with_one(s) {
-        return &s[..0];
-    }
-    let end = 4 + read_size(s, 0) as usize;
-    &s[4..end]
-}
-
-// How many bytes it takes, its length among them.
-#[tactic(auto, using(crate::proofs::Front::one_stands), unfolding(crate::specs::Sheet::width_of, crate::specs::Sheet::size_of))]
-fn width_of(s: &[u8]) -> usize
-    ensures { (result ≡ width_of s.now) × (result ≤ length s.now) }
-{
-    if !begins_with_one(s) {
-        return 0;
-    }
-    4 + read_size(s, 0) as usize
+    let (_, behind) = s.split_at_checked(4)?;
+    behind.split_at_checked(read_size(s, 0) as usize)
 }
 
 // Whether `s` is so many conditions and nothing else.
@@ -68,52 +45,72 @@ fn filled_by(s: &[u8], count: u32) -> bool
 {
     let mut rest = s;
     for _ in 0..count {
-        if !begins_with_one(rest) {
+        let Some((_, behind)) = split_condition(rest) else {
             return false;
-        }
-        let width = width_of(rest);
-        rest = &rest[width..];
+        };
+        rest = behind;
     }
     rest.is_empty()
 }
 
-// 57, then 2; 0 for a sheet that can be gone through.
-#[tactic(auto, using(crate::proofs::Opening::number_long, crate::proofs::Opening::number_few, crate::proofs::Opening::number_many, crate::proofs::Opening::number_filled, crate::proofs::Opening::number_not_filled), unfolding(crate::specs::Sheet::size_of))]
-fn check_sheet(sheet: &[u8]) -> u32
-    ensures { result ≡ sheet_number sheet.now }
+// Why a sheet is not opened: it is longer, or counts more conditions, than there may be; or its count and lengths do not fill it.
+#[derive(Clone, Copy, Debug, PartialEq, Eq)]
+enum SheetFault {
+    TooLarge,
+    Malformed,
+}
+
+impl SheetFault {
+    ghost use Rattle.std.specs.Prelude.{◌≡◌};
+    ghost use Rattle.sheet.specs.Sheet.{fault_number};
+
+    // The refusal's number.
+    fn number(self) -> u32
+        ensures { result ≡ fault_number self }
+    {
+        match self {
+            SheetFault::TooLarge => numbers::SHEET_TOO_LARGE,
+            SheetFault::Malformed => numbers::MALFORMED,
+        }
+    }
+}
+
+// Whether a sheet can be gone through.
+#[tactic(auto, using(crate::proofs::Opening::check_long, crate::proofs::Opening::check_few, crate::proofs::Opening::check_many, crate::proofs::Opening::check_filled, crate::proofs::Opening::check_not_filled), unfolding(crate::specs::Sheet::size_of))]
+fn check_sheet(sheet: &[u8]) -> Result<(), SheetFault>
+    ensures { result ≡ checked sheet.now }
 {
     if 65536 < sheet.len() {
-        return numbers::SHEET_TOO_LARGE;
+        return Err(SheetFault::TooLarge);
     }
     if sheet.len() < 4 {
-        return numbers::MALFORMED;
+        return Err(SheetFault::Malformed);
     }
     let count = read_size(sheet, 0);
     if 32 < count {
-        return numbers::SHEET_TOO_LARGE;
+        return Err(SheetFault::TooLarge);
     }
     if filled_by(&sheet[4..], count) {
-        numbers::OK
+        Ok(())
     } else {
-        numbers::MALFORMED
+        Err(SheetFault::Malformed)
     }
 }
 
 // The registry's refusals, then the sheet's.
-#[tactic(auto, using(crate::proofs::Opening::open_registry_refused, crate::proofs::Opening::open_sheet_refused_behind, crate::proofs::Opening::open_passes, format::proofs::Accepted::bytes_all))]
+#[tactic(auto, using(crate::proofs::Opening::open_registry_refused, crate::proofs::Opening::open_fault_behind, crate::proofs::Opening::open_checked, format::proofs::Accepted::bytes_all))]
 fn answer_open(registry: &[u8], sheet: &[u8], message: &mut [u8]) -> Answer
     ensures { answer_with result [] [] message.new ≡ sheet_open_answer (length message.old) registry.now sheet.now }
 {
     let built = registry::build(registry, message);
     let answer = built.answer;
-    if answer.number != 0 {
+    if answer.number != numbers::OK {
         return answer;
     }
-    let number = check_sheet(sheet);
-    if number != 0 {
-        return refuse_number(number, message);
+    match check_sheet(sheet) {
+        Ok(()) => answer,
+        Err(fault) => refuse_number(fault.number(), message),
     }
-    answer
 }
 
 // How many conditions there are to go through: none where opening was refused.
@@ -121,7 +118,11 @@ fn answer_open(registry: &[u8], sheet: &[u8], message: &mut [u8]) -> Answer
 fn conditions_left(sheet: &[u8], number: u32) -> u32
     ensures { result ≡ conditions_left number sheet.now }
 {
-    if number == 0 { read_size(sheet, 0) } else { 0 }
+    if number == numbers::OK {
+        read_size(sheet, 0)
+    } else {
+        0
+    }
 }
 
 // Opens a sheet: the answer, and the state of its start.
@@ -166,19 +167,26 @@ fn rest_of(sheet: &[u8], at: u64) -> &[u8]
     &sheet[start..]
 }
 
-// The condition that begins at a place.
+// The condition that begins at a place, or an empty one where there is none.
+#[tactic(auto, using(crate::proofs::Front::first_none))]
 fn condition_at(sheet: &[u8], at: u64) -> &[u8]
     ensures { result.now ≡ first_of (drop at sheet.now) }
 {
-    first_of(rest_of(sheet, at))
+    match split_condition(rest_of(sheet, at)) {
+        Some((condition, _)) => condition,
+        None => &[],
+    }
 }
 
 // The place behind it.
+#[tactic(auto, using(crate::proofs::Front::behind_fits, crate::proofs::Front::behind_one, crate::proofs::Front::behind_none))]
 fn behind_condition(sheet: &[u8], at: u64) -> u64
     ensures { result ≡ at + width_of (drop at sheet.now) }
 {
-    let width = width_of(rest_of(sheet, at));
-    at + width as u64
+    match split_condition(rest_of(sheet, at)) {
+        Some((condition, _)) => at + 4 + condition.len() as u64,
+        None => at,
+    }
 }
 
 // The expansion of the next condition, with what is left of the budget as its limit. No more than that is charged.

@@ -11,7 +11,7 @@ ghost use Rattle.subst_call.specs.Front.{macro_from, macro_at, wrong_count, char
 use grammar::code;
 use grammar::codes::{CONDITION, TERM};
 use messages::{Reason, Refused, refuse};
-use nodes::{BodyNode, Heading, past_params, read_body, read_heading};
+use nodes::{BodyNode, Heading, Refusal, past_params, read_body, read_heading};
 use subst_state::maps::{Argument, Substitution, find_arguments};
 use subst_walk::{subst_temporal_condition, subst_temporal_term};
 use tape::layout::{Place, Tape};
@@ -101,7 +101,7 @@ fn substitute_temporal_value(s: &Substitution, c: &mut Cursor) -> Result<(), Ref
     refuse_too_large(s.call_span, TERM, c)
 }
 
-#[tactic(auto, using(crate::proofs::Measured::condition_hands_on, crate::proofs::Measured::value_hands_on), unfolding(crate::specs::Front::substitute_body_in))]
+#[tactic(auto, using(crate::proofs::Measured::condition_hands_on, crate::proofs::Measured::value_hands_on), unfolding(crate::specs::Front::substitute_body_in, nodes::specs::Node::span_of, nodes::specs::Node::refusal_of))]
 fn substitute_body(
     s: &Substitution,
     c: &mut Cursor,
@@ -112,7 +112,7 @@ fn substitute_body(
 {
     match kind {
         // no call gets here with a Cedar macro
-        BodyNode::Cedar => Err(refuse(0, Reason::WithoutMessage(numbers::MALFORMED))),
+        BodyNode::Cedar => Err(Refusal::MALFORMED.into()),
         BodyNode::Condition => {
             charge_body(s, c, end)?;
             substitute_temporal_condition(s, c)
@@ -157,7 +157,7 @@ pub fn substitute_call<'a>(
 }
 
 // Cedar is 31, another number of arguments 34; then the call, whose outcome is written to the area at the start of the slice.
-#[tactic(auto, unfolding(crate::specs::Front::tapes_in, crate::specs::Front::counted_in))]
+#[tactic(auto, unfolding(crate::specs::Front::tapes_in, crate::specs::Front::counted_in, nodes::specs::Node::heading_at, nodes::specs::Node::span_of, nodes::specs::Node::refusal_of))]
 pub fn substitute_tapes<'a>(
     definition: &Tape<'a>,
     call: &Tape<'a>,
@@ -169,12 +169,8 @@ pub fn substitute_tapes<'a>(
 {
     c.restart();
     let origin = Place { at: 0, text: 0 };
-    let Some(called) = read_macro(definition, origin) else {
-        return Err(refuse(0, Reason::WithoutMessage(numbers::MALFORMED)));
-    };
-    let Ok((head, first)) = read_heading(call, origin, code::CALLED) else {
-        return Err(refuse(0, Reason::WithoutMessage(numbers::MALFORMED)));
-    };
+    let called = read_macro(definition, origin).ok_or(Refusal::MALFORMED)?;
+    let (head, first) = read_heading(call, origin, code::CALLED)?;
     if matches!(called.kind, BodyNode::Cedar) {
         return Err(refuse(head.span, Reason::CedarInCondition(head.name)));
     }

@@ -1,4 +1,5 @@
 -- The laws that several proofs of the crate and of those above cite.
+pub mod Behind
 pub mod Items
 pub mod TreesBound
 pub mod TreesFold

@@ -2,18 +2,17 @@
 ghost use Rattle.std.specs.Prelude.{◌≡◌};
 ghost use Rattle.walk_state.specs.Writing.{Walks, state_at, going_at, came_to};
 ghost use Rattle.subst_state.specs.Maps.{maps_at};
-ghost use Rattle.subst_places.specs.Parameters.{tapes_of, items_in, has_root, is_interval, unbound_at, param_in, sigil_ref_in, param_term_in, param_within_in, within_in, behind_in, since_within_in, put_within_in, param_slot_in, binder_slot_in, binder_in, binders_in};
+ghost use Rattle.subst_places.specs.Parameters.{tapes_of, items_in, has_root, is_interval, unbound_at, param_in, sigil_ref_in, param_term_in, param_within_in, within_in, since_within_in, put_within_in, param_slot_in, binder_slot_in, binder_in, binders_in};
 
 use grammar::code;
-use grammar::codes::CONDITION;
 use messages::{Reason, Refused, refuse};
 use nodes::{
     Name, Refusal, Sigil, SlotNode, WithinNode, expect, past_type, read_slot, read_within,
 };
 use subst_state::maps::{Argument, Substitution};
 use subst_state::run::text_between;
-use tape::layout::{Place, Tape};
-use tape::scan::skip;
+use tape::layout::Place;
+use walk_state::reading::behind;
 use walk_state::writing::Cursor;
 
 // Whether the root of an argument is of a code from `low` to `high`.
@@ -118,19 +117,8 @@ fn param_within(s: &Substitution, span: u64, name: Name, next: Place) -> Result<
     Err(refuse(span, Reason::NotAnInterval(s.macro_name, name)))
 }
 
-// Where the left side of a Since ends: where its walk came, or, if that was refused, where a skip comes.
-#[tactic(auto, unfolding(crate::specs::Parameters::behind_in))]
-pub fn behind(tape: &Tape, left: Place, walked: &Result<(), Refused>, c: &Cursor) -> Option<Place>
-    ensures { result ≡ behind_in tape.now.bytes.now tape.now.layout left (came_to walked.now c.now).walk }
-{
-    match walked {
-        Ok(()) => Some(c.place),
-        Err(_) => skip(tape, left, CONDITION),
-    }
-}
-
 // What the within of a Since becomes. It stands behind the left side, which was walked.
-#[tactic(auto, unfolding(crate::specs::Parameters::since_within_in, nodes::specs::Node::span_of, nodes::specs::Node::refusal_of))]
+#[tactic(auto, using(crate::proofs::Behind::since_as_read, crate::proofs::Behind::read, crate::proofs::Behind::unread))]
 pub fn since_within(
     s: &Substitution,
     span: u64,
@@ -140,7 +128,7 @@ pub fn since_within(
 ) -> Result<Interval, Refused>
     ensures { result ≡ since_within_in s.now.definition.bytes.now s.now.args.now (maps_at s.now) span left (came_to walked.now c.now).walk }
 {
-    let p = behind(&s.definition, left, walked, c).ok_or(Refusal::MALFORMED)?;
+    let p = behind(&s.definition, left, &walked.and(Ok(c.place)))?;
     subst_within(s, span, p)
 }
 

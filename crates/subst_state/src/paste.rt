@@ -5,7 +5,7 @@ ghost use Rattle.subst_state.specs.Maps.{maps_at};
 ghost use Rattle.subst_state.specs.Output.{charged_for, copy_own_in, paste_in, charge_paste_in, gensym_in};
 
 use crate::maps::{Argument, Substitution, charge};
-use crate::run::copy;
+use crate::run::{copy, copy_to};
 use messages::{Reason, Refused, refuse};
 use nodes::{Name, name_at, span_of};
 use tape::layout::Place;
@@ -17,8 +17,7 @@ impl Substitution<'_> {
     pub fn copy_own(&self, c: &mut Cursor, next: Place)
         ensures { Moves c.old c.new (copy_own_in self.now.definition.bytes.now (maps_at self.now) (state_at c.old) next c.old.bytes.now) }
     {
-        copy(&self.definition, &self.call, false, c.place, next, c);
-        c.place = next;
+        copy_to(&self.definition, c, next);
     }
 
     // Appends an argument, in the place of what ends at `next`.

@@ -3,7 +3,7 @@ ghost use Rattle.std.specs.Prelude.{◌≡◌, ◌+◌, ◌*◌};
 ghost use Rattle.std.proofs.Math.Seq.{slice};
 ghost use Rattle.format.specs.Stands.{part};
 ghost use Rattle.tape.specs.Pick.{pick};
-ghost use Rattle.walk_state.specs.Writing.{Makes, area_at};
+ghost use Rattle.walk_state.specs.Writing.{Makes, Moves, area_at, going};
 ghost use Rattle.subst_state.specs.Output.{copy_in};
 
 use tape::layout::{Layout, Place, Tape};
@@ -106,4 +106,13 @@ pub fn copy<'a>(
     let values = values_between(definition, call, of_call, from, to);
     let text = text_between(definition, call, of_call, from, to);
     c.append(codes, values, text);
+}
+
+// Appends the entries of a tape from where a walk over it is up to `next`, and goes on there. There is one tape here, so that it is both
+// of those that `copy` chooses from.
+pub fn copy_to(tape: &Tape, c: &mut Cursor, next: Place)
+    ensures { Moves c.old c.new (going next c.old.charged (copy_in tape.now.bytes.now tape.now.layout c.old.place next (area_at c.old))) }
+{
+    copy(tape, tape, false, c.place, next, c);
+    c.place = next;
 }

@@ -65,6 +65,7 @@ fn condition(
     }
 }
 
+// The two conditions of an And or an Or.
 #[tactic(auto, using(crate::proofs::Walking::hands_on_condition), unfolding(crate::specs::Walkers::both_in))]
 #[cycle(walk)]
 fn both(n: usize, s: &Substitution, c: &mut Cursor, next: Place) -> Result<(), Refused>

@@ -33,7 +33,8 @@ fn substitute_in<'a>(
     answer_walk(definition, call, walked, &mut c, res, message)
 }
 
-// The same over the rewritten tapes, for which there is room here: most tapes have no Or.
+// The same over the rewritten tapes, for which there is room here: most tapes have no Or, and only those with one pay for it. Tried with a
+// closure, which writes to lent buffers: the caller's goal stays open.
 fn substitute_rewritten(
     definition: &Tape,
     call: &Tape,

@@ -43,11 +43,12 @@ use Rattle.tape.proofs.Found.{Language, found, took_all}
 use Rattle.tape.proofs.Passing.{PassesBy, Keeps, TextsPass, short_in, reported}
 use Rattle.tape.proofs.Places.{widths_of, widths_texted, entries_texted, split_entries, values_64, eq→eqb}
 use Rattle.format.proofs.Tests.{and_left, and_right, and_both, is_true, from_true, same_test}
+use Rattle.grammar.specs.Words.{Rules}
 use Rattle.tape.proofs.Turns.{length_entries}
 use Rattle.tape.proofs.Typed.{temporal_trees}
 
--- What a root of format has to do with a sort: its trees are those of the sort, and its limits are those of the scan and of the entries that
--- there are once Ors are rewritten.
+-- What a root of format has to do with a sort: its trees are those of the sort, and its limits are those of the scan and of the entries
+-- that there are once Ors are rewritten.
 pub record RootBy {t : Table} (trees : Language t) (longest : ℕ) {A : Type 0} (root : Root A) (sort : ℕ) : Type 0 where
   pub is_sort : sort < 32
   pub is_limited_lem : is_limited longest ≡ true
@@ -59,7 +60,7 @@ pub record RootBy {t : Table} (trees : Language t) (longest : ℕ) {A : Type 0} 
   pub listed : A → Bool
   pub passes : (a : A) → PassesBy t (sort ∷ []) (root.flat a) (deep a) (listed a)
   pub short : (a : A) → length (root.flat a) ≤ 1024
-      → (short_in t.words longest (root.flat a) && leb (length (root.flat a) + 3 * tally 2 (root.flat a)) 1024) ≡ root.texts (root.flat a)
+      → (short_in t.grammar longest (root.flat a) && leb (length (root.flat a) + 3 * tally 2 (root.flat a)) 1024) ≡ root.texts (root.flat a)
   pub limits : (a : A) → (leb (deep a (t.nodes (is_limited longest))) 64 && (leb (deep a t.calls) 4 && listed a))
       ≡ (fits_depths (root.deep node_weight a) (root.deep call_weight a) && root.few a)
 
@@ -78,7 +79,8 @@ data Parsed {A : Type 0} (root : Root A) (es : List Entry) : Reading A → Type 
   no_tree : ((a : A) → root.flat a ≡ es → ⊥) → Parsed root es Reading.malformed
   a_tree : (a : A) → root.flat a ≡ es → Parsed root es (read_limits (small root es a) a)
 
--- What an accepted slice holds: the tree's entries, their values 64 bits each, its texts well-formed, its sizes and its tree within the limits.
+-- What an accepted slice holds: the tree's entries, their values 64 bits each, its texts well-formed, its sizes and its tree within the
+-- limits.
 pub record Holds {A : Type 0} (root : Root A) (s : List ℕ) (a : A) : Type 0 where
   pub values_are : Bytes s → Values64 (root.flat a)
   pub entries_count : length (root.flat a) ≡ entries_of s
@@ -97,7 +99,7 @@ pub data Answers {A : Type 0} (root : Root A) (s : List ℕ) : Result Layout Fau
 
 -- ------------------------------------------------------------------ limits
 
-module _ (g : List ℕ) (longest : ℕ) (limited : is_limited longest ≡ true) (es : List Entry) {nodes calls : ℕ} {listed : Bool} where
+module _ (g : Rules) (longest : ℕ) (limited : is_limited longest ≡ true) (es : List Entry) {nodes calls : ℕ} {listed : Bool} where
   to_limits : T (short_in g longest es && (leb nodes 64 && (leb calls 4 && listed))) → Keeps g longest 0 0 nodes calls listed es
   to_limits t =
       let m = and_right (short_in g longest es) _ t in
@@ -193,19 +195,19 @@ module _ {t : Table} {trees : Language t} {longest : ℕ} {A : Type 0} {root : R
 
   -- the scan says what the limits on depths and texts say
   over_is : (a : A) → (r.passes a).over longest 0 0
-      ≡ not (short_in t.words longest (root.flat a) && (fits_depths (root.deep node_weight a) (root.deep call_weight a) && root.few a))
+      ≡ not (short_in t.grammar longest (root.flat a) && (fits_depths (root.deep node_weight a) (root.deep call_weight a) && root.few a))
   over_is a =
       let es = root.flat a in
       let nodes = r.deep a (t.nodes (is_limited longest)) in
       rw (← (r.limits a))
-      (reported (short_in t.words longest es && (leb nodes 64 && (leb (r.deep a t.calls) 4 && r.listed a)))
-      ((r.passes a).says longest 0 0 (omega arith) (omega arith)) (to_limits t.words longest r.is_limited_lem es)
-      (from_limits t.words longest r.is_limited_lem es))
+      (reported (short_in t.grammar longest es && (leb nodes 64 && (leb (r.deep a t.calls) 4 && r.listed a)))
+      ((r.passes a).says longest 0 0 (omega arith) (omega arith)) (to_limits t.grammar longest r.is_limited_lem es)
+      (from_limits t.grammar longest r.is_limited_lem es))
 
   module _ (s : List ℕ) (l : Layout) (es : List Entry) (sized : l.entries ≡ length es) (filled : l.size ≡ widths_of es) (w : WellTexted es)
       (most : length es ≤ 1024) (counted : rewritten_count s l ≡ length es + 3 * tally 2 es) where
     abbrev scanned : Option (Place × Bool)
-    scanned = scan_of t.words longest l.size es (wait sort 0 0 ∷ []) 0 0 false
+    scanned = scan_of t.grammar longest l.size es (wait sort 0 0 ∷ []) 0 0 false
 
     -- the entries of a tree are passed over
     judged_tree : T (well_texts es) → (a : A) → root.flat a ≡ es → judged s l scanned ≡ pick (not (small root es a)) (Err TooLarge) (Ok l)
@@ -217,10 +219,10 @@ module _ {t : Table} {trees : Language t} {longest : ℕ} {A : Type 0} {root : R
         let q = p.run longest l.size 0 0 [] [] 0 0 false (omega arith) (omega arith) (omega arith)
         (rw e (to_texts longest r.is_limited_lem es well)) in
         let depths = fits_depths (root.deep node_weight a) (root.deep call_weight a) && root.few a in
-        let short = short_in t.words longest es in
+        let short = short_in t.grammar longest es in
         let texts : (short && leb (length es + 3 * tally 2 es) 1024) ≡ root.texts es = rw e at (r.short a (rw e most)) in
         let z : scanned ≡ Some (record { at = l.entries; text = l.size }, not (short && depths)) =
-        ap (λ (x : List Entry). scan_of t.words longest l.size x (wait sort 0 0 ∷ []) 0 0 false) (sym e ∙ sym (append-nil (root.flat a)))
+        ap (λ (x : List Entry). scan_of t.grammar longest l.size x (wait sort 0 0 ∷ []) 0 0 false) (sym e ∙ sym (append-nil (root.flat a)))
         ∙ q ∙ rw (zero-add, zero-add, k, n, over_is a, e) in
         rw (z, eq-eqb l.entries l.entries refl, eq-eqb l.size l.size refl, counted, ← texts)
         (both_figures short (leb (length es + 3 * tally 2 es) 1024) depths (Err TooLarge) (Ok l))
@@ -241,14 +243,14 @@ module _ {t : Table} {trees : Language t} {longest : ℕ} {A : Type 0} {root : R
 
   module _ (s : List ℕ) where
     es : List Entry
-    es = entries_at t.words s (tape_layout (entries_of s) (size_of s)) 0 0 (entries_of s)
+    es = entries_at t.grammar s (tape_layout (entries_of s) (size_of s)) 0 0 (entries_of s)
 
     -- a slice as long as its sizes say
     module _ (sized : length s ≡ 8 + 9 * entries_of s + size_of s) (most : entries_of s ≤ 1024) where
       abbrev l : Layout
       l = tape_layout (entries_of s) (size_of s)
 
-      scan_is : scan_at t.words s l (record { at = 0; text = 0 }) sort longest ≡ scan_of t.words longest (size_of s) es (wait sort 0 0 ∷ []) 0 0 false
+      scan_is : scan_at t.grammar s l (record { at = 0; text = 0 }) sort longest ≡ scan_of t.grammar longest (size_of s) es (wait sort 0 0 ∷ []) 0 0 false
       unfolding es
       scan_is =
           let e : starts s l (record { at = 0; text = 0 }) sort ≡ true =
@@ -270,16 +272,16 @@ module _ {t : Table} {trees : Language t} {longest : ℕ} {A : Type 0} {root : R
 
       -- the scan of a tape's entries answers what is read from its sections
       scan_reads : T (fits_sizes (entries_of s) (size_of s))
-          → Answers root s (judged s l (scan_of t.words longest (size_of s) es (wait sort 0 0 ∷ []) 0 0 false))
+          → Answers root s (judged s l (scan_of t.grammar longest (size_of s) es (wait sort 0 0 ∷ []) 0 0 false))
           (read_tree root (read_texts (pick (eqb (widths_of es) (size_of s)) (some es) none)))
       unfolding es read_texts read_tree read_limits
       scan_reads fit = go (eqb (widths_of es) (size_of s)) (eqb-true (widths_of es) (size_of s)) (eqb-false (widths_of es) (size_of s))
         where
           scanned : Option (Place × Bool)
-          scanned = scan_of t.words longest (size_of s) es (wait sort 0 0 ∷ []) 0 0 false
+          scanned = scan_of t.grammar longest (size_of s) es (wait sort 0 0 ∷ []) 0 0 false
 
           k : length es ≡ entries_of s
-          k = length_entries t.words s l 0 0 (entries_of s)
+          k = length_entries t.grammar s l 0 0 (entries_of s)
 
           texted : widths_of es ≡ size_of s → WellTexted es
           texted e = entries_texted t s l (entries_of s) 0 0 (omega arith)
@@ -291,7 +293,7 @@ module _ {t : Table} {trees : Language t} {longest : ℕ} {A : Type 0} {root : R
           counted =
               let h : holds s l ≡ true =
               is_true (holding s l (record { entries_most = most; codes_held = omega arith; values_held = omega arith })) in
-              let ors : ors_from s l 0 ≡ tally 2 es = rw (sub-zero (entries_of s)) (entries_ors t.words s l (entries_of s) 0 0 (omega arith)) in
+              let ors : ors_from s l 0 ≡ tally 2 es = rw (sub-zero (entries_of s)) (entries_ors t.grammar s l (entries_of s) 0 0 (omega arith)) in
               rw h (omega (arith, k, ors))
 
           limited : widths_of es ≡ size_of s → T (well_texts es) → (a : A) → root.flat a ≡ es → (b : Bool) → small root es a ≡ b
@@ -302,7 +304,7 @@ module _ {t : Table} {trees : Language t} {longest : ℕ} {A : Type 0} {root : R
               let m : length (text_of (root.flat a)) ≡ size_of s = ap (λ (fs : List Entry). length (text_of fs)) x ∙ sym (widths_texted (texted e)) ∙ e in
               answers_tape {a = a} {l = l}
               (record {
-                values_are = λ bytes. rw x (values_64 t.words s l (entries_of s) 0 0 bytes);
+                values_are = λ bytes. rw x (values_64 t.grammar s l (entries_of s) 0 0 bytes);
                 entries_count = n;
                 text_count_lem = m;
                 sized = sized;
@@ -336,12 +338,12 @@ module _ {t : Table} {trees : Language t} {longest : ℕ} {A : Type 0} {root : R
               answers_2
 
       pub sections_answer : T (fits_sizes (entries_of s) (size_of s))
-          → Answers root s (accept_in t.words longest s sort l) (read_tree root (read_texts
+          → Answers root s (accept_in t.grammar longest s sort l) (read_tree root (read_texts
           (split (take (entries_of s) (drop 8 s)) (take (8 * entries_of s) (drop (entries_of s) (drop 8 s))) (drop (9 * entries_of s) (drop 8 s)))))
       sections_answer fit = rw (scan_is, sections_are) (scan_reads fit)
 
   -- The code's acceptance answers what format's gives, for every list of bytes.
-  pub answers : (s : List ℕ) → Answers root s (accept_by t.words longest s sort) (accept root s)
+  pub answers : (s : List ℕ) → Answers root s (accept_by t.grammar longest s sort) (accept root s)
   unfolding accept read_tape read_sizes read_sections read_tree
   answers s = long (leb 8 (length s)) (leb→le 8 (length s))
     where
@@ -352,7 +354,7 @@ module _ {t : Table} {trees : Language t} {longest : ℕ} {A : Type 0} {root : R
       m = size_of s
 
       exact : T (fits_sizes n m) → 8 ≤ length s → (b : Bool) → (T b → length (drop 8 s) ≡ 9 * n + m)
-          → Answers root s (after_open t.words longest s sort (pick b (Ok (tape_layout n m)) (Err Malformed)))
+          → Answers root s (after_open t.grammar longest s sort (pick b (Ok (tape_layout n m)) (Err Malformed)))
           (read_tree root (elim b [
             | true ↦ read_texts (split (take n (drop 8 s)) (take (8 * n) (drop n (drop 8 s))) (drop (9 * n) (drop 8 s)))
             | false ↦ Reading.malformed
@@ -368,7 +370,7 @@ module _ {t : Table} {trees : Language t} {longest : ℕ} {A : Type 0} {root : R
           (λ u. let z = eqb→eq (length (drop 8 s)) (9 * n + m) u in eq→eqb (length s) (8 + 9 * n + m) (omega arith))
 
       fits : 8 ≤ length s → (b : Bool) → (T b → T (fits_sizes n m))
-          → Answers root s (after_open t.words longest s sort (pick b (pick (eqb (length s) (8 + 9 * n + m)) (Ok (tape_layout n m)) (Err Malformed)) (Err TooLarge)))
+          → Answers root s (after_open t.grammar longest s sort (pick b (pick (eqb (length s) (8 + 9 * n + m)) (Ok (tape_layout n m)) (Err Malformed)) (Err TooLarge)))
           (read_tree root (elim b [ true ↦ read_sections n m (drop 8 s) | false ↦ Reading.too_large ]))
       fits h false fit = answers_3
       fits h true fit =
@@ -376,7 +378,7 @@ module _ {t : Table} {trees : Language t} {longest : ℕ} {A : Type 0} {root : R
 
       long : (b : Bool) → (T b → 8 ≤ length s)
           → Answers root s
-          (after_open t.words longest s sort (pick b (pick (fits_sizes n m) (pick (eqb (length s) (8 + 9 * n + m)) (Ok (tape_layout n m)) (Err Malformed)) (Err TooLarge)) (Err Malformed)))
+          (after_open t.grammar longest s sort (pick b (pick (fits_sizes n m) (pick (eqb (length s) (8 + 9 * n + m)) (Ok (tape_layout n m)) (Err Malformed)) (Err TooLarge)) (Err Malformed)))
           (read_tree root (elim b [ true ↦ read_sizes n m (drop 8 s) | false ↦ Reading.malformed ]))
       long false h = answers_2
       long true h = fits (h tt) (fits_sizes n m) (λ u. u)

@@ -19,6 +19,7 @@ use Rattle.tape.specs.Layouts.{code_at, holds, width_by, entries_at}
 use Rattle.tape.specs.Pick.{pick}
 use Rattle.tape.specs.declared.layout.Layout.{Layout}
 use Rattle.format.specs.Macro.{tally}
+use Rattle.grammar.specs.Words.{Rules}
 use Rattle.tape.specs.Ors.{coded, ors_from, ors_in}
 
 -- a figure summed up from a code on
@@ -84,7 +85,7 @@ ors_in_most s l = go (holds s l)
     go false = omega arith
 
 -- those among the entries that a slice has from an entry on
-pub entries_ors : (g s : List ℕ) (l : Layout) (n at txt : ℕ) → l.codes + at + n ≤ length s
+pub entries_ors : (g : Rules) (s : List ℕ) (l : Layout) (n at txt : ℕ) → l.codes + at + n ≤ length s
     → tally 2 (coded (part s (l.codes + at) n)) ≡ tally 2 (entries_at g s l at txt n)
 unfolding tally
 entries_ors g s l zero at txt h = refl

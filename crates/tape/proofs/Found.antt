@@ -36,8 +36,8 @@ spell_all spell (s ∷ ss) xs = spell s xs.0 ++ spell_all spell ss xs.1
 pub record Language (t : Table) : Type 1 where
   pub Tree : ℕ → Type 0
   pub spell : (s : ℕ) → Tree s → List Entry
-  pub built : (s : ℕ) (e : Entry) → allowed t.words s e ≡ true → length e.text ≡ text_width (is_text e.code) e.value
-      → (xs : TreesOf Tree (sorts_below t.words s e)) → (x : Tree s) × (spell s x ≡ e ∷ spell_all spell (sorts_below t.words s e) xs)
+  pub built : (s : ℕ) (e : Entry) → allowed t.grammar s e ≡ true → length e.text ≡ text_width (is_text e.code) e.value
+      → (xs : TreesOf Tree (sorts_below t.grammar s e)) → (x : Tree s) × (spell s x ≡ e ∷ spell_all spell (sorts_below t.grammar s e) xs)
 
 abbrev sorts_waited : List Wait → List ℕ
 sorts_waited [] = []
@@ -92,7 +92,7 @@ module _ {t : Table} (trees : Language t) where
 
   module _ (longest size : ℕ) where
     pub found : (es : List Entry) (st : List Wait) (at text : ℕ) (over : Bool) (p : Place) (o : Bool) → WellTexted es
-        → scan_of t.words longest size es st at text over ≡ Some (p, o) → Found es (sorts_waited st) at p
+        → scan_of t.grammar longest size es st at text over ≡ Some (p, o) → Found es (sorts_waited st) at p
     found [] [] at text over p o w h =
         record { trees_are = tt; rest = []; split = refl; ends = ap (λ (q : Place). q.at) (same_place h) ∙ sym (add-zero at) }
     found [] (c ∷ st) at text over p o w h = never h
@@ -103,15 +103,15 @@ module _ {t : Table} (trees : Language t) where
         (found es (below longest c head ++ st) (at + 1) (text + head.text) (over || exceeds longest c head) p o w)
       where
         head : Head
-        head = head_of t.words c.sort e.code e.value
+        head = head_of t.grammar c.sort e.code e.value
 
         lets_in : Bool
         lets_in = accepts (length es) (size - text) head && text_passes longest e.text
 
         ss : List ℕ
-        ss = sorts_below t.words c.sort e
+        ss = sorts_below t.grammar c.sort e
 
-        grown : allowed t.words c.sort e ≡ true → Found es (ss ++ sorts_waited st) (at + 1) p
+        grown : allowed t.grammar c.sort e ≡ true → Found es (ss ++ sorts_waited st) (at + 1) p
             → Found (e ∷ es) (c.sort ∷ sorts_waited st) at p
         grown ok f =
             let r = parted ss (sorts_waited st) f.trees_are in
@@ -132,12 +132,12 @@ module _ {t : Table} (trees : Language t) where
             → Found (e ∷ es) (c.sort ∷ sorts_waited st) at p
         go false a h next = never h
         go true a h next =
-            let i = in_sort (sort_at t.words c.sort) e.code in
+            let i = in_sort (sort_at t.grammar c.sort) e.code in
             let u = and_left (accepts (length es) (size - text) head) _ (from_true a) in
             let n = deeper longest c.nesting head in
             let k = enclosed c.calls head in
             grown (is_true (and_both i _ (and_left i _ u)
-            (and_left (valued (values_of (row_at t.words e.code)) e.value) _ (and_right i _ u))))
+            (and_left (valued (values_of (row_at t.grammar e.code)) e.value) _ (and_right i _ u))))
             (subst (λ (l : List ℕ). Found es l (at + 1) p) (sorts_append n k ss st) (next h))
 
 -- a scan that used up all entries took their text, and each text is one that it takes
@@ -147,7 +147,7 @@ pub record TookAll (longest : ℕ) (es : List Entry) (text : ℕ) (p : Place) : 
 
 module _ (t : Table) (longest size : ℕ) where
   pub took_all : (es : List Entry) (st : List Wait) (at text : ℕ) (over : Bool) (p : Place) (o : Bool)
-      → scan_of t.words longest size es st at text over ≡ Some (p, o) → p.at ≡ at + length es → TookAll longest es text p
+      → scan_of t.grammar longest size es st at text over ≡ Some (p, o) → p.at ≡ at + length es → TookAll longest es text p
   took_all [] [] at text over p o h e =
       record { text_ends = ap (λ (q : Place). q.text) (same_place h) ∙ sym (add-zero text); texts_pass = all_nil }
   took_all [] (c ∷ st) at text over p o h e = never h
@@ -157,7 +157,7 @@ module _ (t : Table) (longest size : ℕ) where
       (λ g. took_all es (below longest c head ++ st) (at + 1) (text + head.text) (over || exceeds longest c head) p o g (omega arith))
     where
       head : Head
-      head = head_of t.words c.sort x.code x.value
+      head = head_of t.grammar c.sort x.code x.value
 
       lets_in : Bool
       lets_in = accepts (length es) (size - text) head && text_passes longest x.text

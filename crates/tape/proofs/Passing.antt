@@ -15,10 +15,10 @@ use Rattle.format.proofs.All.{All, all_nil, all_cons, all_head, all_tail, all_ap
 use Rattle.format.proofs.Encodes.{WellTexted}
 use Rattle.format.proofs.Stands.{text_append}
 use Rattle.grammar.specs.Grammar.{Follows, once, each, sorts_of}
-use Rattle.grammar.specs.Words.{sort_at, row_at, in_sort, is_few, values_of, calls_of, follows_in, follows_of, longest_of}
+use Rattle.grammar.specs.Words.{Rules, sort_at, row_at, in_sort, is_few, values_of, calls_of, follows_in, follows_of, longest_of}
 use Rattle.grammar.specs.Waits.{Wait, wait, waits, head_of, valued, counted, accepts, is_limited, nests_by, deeper, enclosed, passes, exceeds}
 use Rattle.grammar.specs.declared.entry.Head.{Head}
-use Rattle.grammar.proofs.Marks.{Table, temporal}
+use Rattle.grammar.proofs.Marks.{Table, temporal, fewer}
 use Rattle.tape.specs.Scan.{scan_of, text_passes}
 use Rattle.format.proofs.Tests.{and_left, and_right, and_both, is_true, from_true, same_test}
 
@@ -64,7 +64,7 @@ reports_figure most n more h =
 -- ------------------------------------------------------------------ the largest figures
 
 -- no text is longer than it may be
-abbrev pub short_in : List ℕ → ℕ → List Entry → Bool
+abbrev pub short_in : Rules → ℕ → List Entry → Bool
 short_in g longest [] = true
 short_in g longest (e ∷ es) = leb (length e.text) (longest_of longest (row_at g e.code)) && short_in g longest es
 
@@ -82,21 +82,21 @@ asked_not true b = refl
 asked_not false b = refl
 
 -- entries with so many nodes and calls on a path, below n nodes and k calls, pass no largest figure
-pub record Keeps (g : List ℕ) (longest n k nodes calls : ℕ) (listed : Bool) (es : List Entry) : Type 0 where
+pub record Keeps (g : Rules) (longest n k nodes calls : ℕ) (listed : Bool) (es : List Entry) : Type 0 where
   pub nodes_keep : n + nodes ≤ 64
   pub calls_keep : k + calls ≤ 4
   pub listed_keep : T (asked (is_limited longest) listed)
   pub texts_keep : T (asked (is_limited longest) (short_in g longest es))
 
 -- no short list of more than 16
-abbrev pub listed_at : List ℕ → ℕ → ℕ → Bool
+abbrev pub listed_at : Rules → ℕ → ℕ → Bool
 listed_at g s v = not (is_few (sort_at g s) && ltb 16 v)
 
 asked_true : (limited : Bool) → T (asked limited true)
 asked_true true = tt
 asked_true false = tt
 
-short_append : (g : List ℕ) (longest : ℕ) (es fs : List Entry) → short_in g longest (es ++ fs) ≡ (short_in g longest es && short_in g longest fs)
+short_append : (g : Rules) (longest : ℕ) (es fs : List Entry) → short_in g longest (es ++ fs) ≡ (short_in g longest es && short_in g longest fs)
 short_append g longest [] fs = refl
 short_append g longest (e ∷ es) fs =
     let own = leb (length e.text) (longest_of longest (row_at g e.code)) in
@@ -120,16 +120,16 @@ pub record PassesBy (t : Table) (ss : List ℕ) (es : List Entry) (d : (ℕ → 
   pub over : ℕ → ℕ → ℕ → Bool
   pub run : (longest size n k : ℕ) (st : List Wait) (rest : List Entry) (at text : ℕ) (o : Bool)
       → n ≤ 64 → k ≤ 4 → text + length (text_of es) ≤ size → TextsPass longest es
-      → scan_of t.words longest size (es ++ rest) (waits n k ss ++ st) at text o
-      ≡ scan_of t.words longest size rest st (at + length es) (text + length (text_of es)) (o || over longest n k)
+      → scan_of t.grammar longest size (es ++ rest) (waits n k ss ++ st) at text o
+      ≡ scan_of t.grammar longest size rest st (at + length es) (text + length (text_of es)) (o || over longest n k)
   pub says : (longest n k : ℕ) → n ≤ 64 → k ≤ 4
-      → Reports (over longest n k) (Keeps t.words longest n k (d (t.nodes (is_limited longest))) (d t.calls) listed es)
+      → Reports (over longest n k) (Keeps t.grammar longest n k (d (t.nodes (is_limited longest))) (d t.calls) listed es)
 
 -- by the table of document 01
 abbrev pub Passes : List ℕ → List Entry → ((ℕ → ℕ) → ℕ) → Bool → Type 0
 Passes ss es d listed = PassesBy temporal ss es d listed
 
-moved : (g : List ℕ) (longest size : ℕ) (rest : List Entry) (st : List Wait) {at at' text text' : ℕ} {o o' : Bool}
+moved : (g : Rules) (longest size : ℕ) (rest : List Entry) (st : List Wait) {at at' text text' : ℕ} {o o' : Bool}
     → at ≡ at' → text ≡ text' → o ≡ o' → scan_of g longest size rest st at text o ≡ scan_of g longest size rest st at' text' o'
 moved g longest size rest st p q r = rw (p, q, r)
 
@@ -141,7 +141,7 @@ none {t} =
       texted = all_nil;
       long = omega arith;
       over = λ longest n k. false;
-      run = λ longest size n k st rest at text o h₁ h₂ h w. moved t.words longest size rest st (sym (add-zero at))
+      run = λ longest size n k st rest at text o h₁ h₂ h w. moved t.grammar longest size rest st (sym (add-zero at))
           (sym (add-zero text)) (sym (or-false o));
       says = λ longest n k h₁ h₂. record {
         passed = λ t q. t;
@@ -174,11 +174,11 @@ module _ {t : Table} {ss ts : List ℕ} {es fs : List Entry} {d g : (ℕ → ℕ
             (a.run longest size n k (waits n k ts ++ st) (fs ++ rest) at text o h₁ h₂ (omega arith) (all_left es fs w)
             ∙ b.run longest size n k st rest (at + length es) (text + length (text_of es)) (o || a.over longest n k) h₁ h₂
             (omega arith) (all_right es w)
-            ∙ moved t.words longest size rest st (omega arith) (omega arith) (or_assoc o (a.over longest n k) (b.over longest n k)));
+            ∙ moved t.grammar longest size rest st (omega arith) (omega arith) (or_assoc o (a.over longest n k) (b.over longest n k)));
         says = λ longest n k h₁ h₂.
             let z = is_limited longest in
-            let first = short_in t.words longest es in
-            let short = ap (asked z) (short_append t.words longest es fs) ∙ asked_and z first (short_in t.words longest fs) in
+            let first = short_in t.grammar longest es in
+            let short = ap (asked z) (short_append t.grammar longest es fs) ∙ asked_and z first (short_in t.grammar longest fs) in
             let listed = asked_and z x y in
             reports_or (a.says longest n k h₁ h₂) (b.says longest n k h₁ h₂)
             (λ p q. record {
@@ -208,11 +208,11 @@ not_ltb a b = same_test (λ t. le→leb b a (nltb→le a b t))
     (λ t. not_T (ltb a b) (λ u. let g = ltb→lt a b u in let h = leb→le b a t in omega arith))
 
 -- a code and a value that may stand at a place of a sort
-abbrev pub allowed : List ℕ → ℕ → Entry → Bool
+abbrev pub allowed : Rules → ℕ → Entry → Bool
 allowed g s e = in_sort (sort_at g s) e.code && valued (values_of (row_at g e.code)) e.value
 
 -- the sorts of what follows
-abbrev pub sorts_below : List ℕ → ℕ → Entry → List ℕ
+abbrev pub sorts_below : Rules → ℕ → Entry → List ℕ
 sorts_below g s e = sorts_of (follows_of (follows_in (sort_at g s) (row_at g e.code))) e.value
 
 -- a count says no more entries than there are sorts
@@ -220,10 +220,10 @@ counted_long : (f : Follows) (v : ℕ) → counted f v ≤ length (sorts_of f v)
 counted_long (once ss) v = omega arith
 counted_long (each s) v = omega (arith, length-replicate v s)
 
-module _ (t : Table) (s : ℕ) (e : Entry) (ok : allowed t.words s e ≡ true)
+module _ (t : Table) (s : ℕ) (e : Entry) (ok : allowed t.grammar s e ≡ true)
     (wide : length e.text ≡ text_width (is_text e.code) e.value) where
   abbrev head : Head
-  head = head_of t.words s e.code e.value
+  head = head_of t.grammar s e.code e.value
 
   -- the table's mark says the same
   width : length e.text ≡ head.text
@@ -240,17 +240,17 @@ module _ (t : Table) (s : ℕ) (e : Entry) (ok : allowed t.words s e ≡ true)
 
   -- the entry's own figures
   short_entry : (limited : Bool) (longest : ℕ) (es : List Entry)
-      → asked limited (short_in t.words longest (e ∷ es))
-      ≡ (not (limited && ltb (longest_of longest head.row) head.text) && asked limited (short_in t.words longest es))
+      → asked limited (short_in t.grammar longest (e ∷ es))
+      ≡ (not (limited && ltb (longest_of longest head.row) head.text) && asked limited (short_in t.grammar longest es))
   short_entry true longest es =
-      rw width (ap (λ (b : Bool). b && short_in t.words longest es) (sym (not_ltb (longest_of longest head.row) head.text)))
+      rw width (ap (λ (b : Bool). b && short_in t.grammar longest es) (sym (not_ltb (longest_of longest head.row) head.text)))
   short_entry false longest es = refl
 
-  module _ {es : List Entry} {d : (ℕ → ℕ) → ℕ} {x : Bool} (b : PassesBy t (sorts_below t.words s e) es d x) where
+  module _ {es : List Entry} {d : (ℕ → ℕ) → ℕ} {x : Bool} (b : PassesBy t (sorts_below t.grammar s e) es d x) where
     entry_says : (longest n k : ℕ) → n ≤ 64 → k ≤ 4
         → Reports (exceeds longest (wait s n k) head || b.over longest (deeper longest n head) (enclosed k head))
-        (Keeps t.words longest n k (t.nodes (is_limited longest) e.code + d (t.nodes (is_limited longest))) (t.calls e.code + d t.calls)
-        (listed_at t.words s e.value && x) (e ∷ es))
+        (Keeps t.grammar longest n k (t.nodes (is_limited longest) e.code + d (t.nodes (is_limited longest))) (t.calls e.code + d t.calls)
+        (listed_at t.grammar s e.value && x) (e ∷ es))
     entry_says longest n k h₁ h₂ =
         let z = is_limited longest in
         let long = z && ltb (longest_of longest head.row) head.text in
@@ -284,7 +284,7 @@ module _ (t : Table) (s : ℕ) (e : Entry) (ok : allowed t.words s e ≡ true)
           texts_keep = and_right (not long) _ (rw short at r.texts_keep);
         })
 
-    entry_passes : PassesBy t (s ∷ []) (e ∷ es) (λ w. w e.code + d w) (listed_at t.words s e.value && x)
+    entry_passes : PassesBy t (s ∷ []) (e ∷ es) (λ w. w e.code + d w) (listed_at t.grammar s e.value && x)
     unfolding text_of
     entry_passes =
         record {
@@ -302,7 +302,7 @@ module _ (t : Table) (s : ℕ) (e : Entry) (ok : allowed t.words s e ≡ true)
               rw ok'
               (b.run longest size (deeper longest n head) (enclosed k head) st rest (at + 1) (text + head.text) (o || more) (omega arith)
               (omega arith) (omega (arith, width)) (all_tail w)
-              ∙ moved t.words longest size rest st (omega arith) (omega (arith, width))
+              ∙ moved t.grammar longest size rest st (omega arith) (omega (arith, width))
               (or_assoc o more (b.over longest (deeper longest n head) (enclosed k head))));
           says = entry_says;
         }
@@ -321,26 +321,26 @@ module _ {t : Table} where
         says = λ longest n k h₁ h₂. rw (← (p (is_limited longest)), ← q) (b.says longest n k h₁ h₂);
       }
 
-  module _ (s : ℕ) (e : Entry) (ok : allowed t.words s e ≡ true) (wide : length e.text ≡ text_width (is_text e.code) e.value)
+  module _ (s : ℕ) (e : Entry) (ok : allowed t.grammar s e ≡ true) (wide : length e.text ≡ text_width (is_text e.code) e.value)
       {es : List Entry} {x : Bool} where
-    pub node : {d : (ℕ → ℕ) → ℕ} → PassesBy t (sorts_below t.words s e) es d x
-        → PassesBy t (s ∷ []) (e ∷ es) (λ w. w e.code + d w) (listed_at t.words s e.value && x)
+    pub node : {d : (ℕ → ℕ) → ℕ} → PassesBy t (sorts_below t.grammar s e) es d x
+        → PassesBy t (s ∷ []) (e ∷ es) (λ w. w e.code + d w) (listed_at t.grammar s e.value && x)
     node b = entry_passes t s e ok wide b
 
     -- an entry with nothing deep below it
-    pub tip : PassesBy t (sorts_below t.words s e) es (λ w. 0) x
-        → PassesBy t (s ∷ []) (e ∷ es) (λ w. w e.code) (listed_at t.words s e.value && x)
+    pub tip : PassesBy t (sorts_below t.grammar s e) es (λ w. 0) x
+        → PassesBy t (s ∷ []) (e ∷ es) (λ w. w e.code) (listed_at t.grammar s e.value && x)
     tip b = deep_as _ (λ limited. omega arith) (omega arith) (node b)
 
     -- an entry that is no node and no call
     pub plain : {d : (ℕ → ℕ) → ℕ} → t.nodes true e.code ≡ 0 → t.calls e.code ≡ 0
-        → PassesBy t (sorts_below t.words s e) es d x
-        → PassesBy t (s ∷ []) (e ∷ es) d (listed_at t.words s e.value && x)
+        → PassesBy t (sorts_below t.grammar s e) es d x
+        → PassesBy t (s ∷ []) (e ∷ es) d (listed_at t.grammar s e.value && x)
     plain {d} p q b = deep_as d (λ limited. omega (arith, light limited)) (omega arith) (node b)
       where
         light : (limited : Bool) → t.nodes limited e.code ≡ 0
         light true = p
-        light false = omega (arith, t.nodes_are true e.code, t.nodes_are false e.code, p)
+        light false = omega (arith, fewer t e.code, p)
 
   -- something behind a run in which nothing is deep
   infixr 20 ◌before◌

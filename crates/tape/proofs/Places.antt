@@ -23,6 +23,7 @@ use Rattle.tape.specs.Layouts.{code_at, value_at, width_at, width_by, entries_at
 use Rattle.tape.specs.Pick.{pick}
 use Rattle.tape.specs.declared.layout.Layout.{Layout}
 use Rattle.format.proofs.Tests.{same_test}
+use Rattle.grammar.specs.Words.{Rules}
 
 -- how much text entries take
 abbrev pub widths_of : List Entry → ℕ
@@ -36,21 +37,21 @@ widths_texted (all_cons {a = e} {l = es} h w) = omega (arith, h, widths_texted w
 
 module _ (t : Table) (s : List ℕ) (l : Layout) where
   -- a table's mark is format's
-  width_is : (i : ℕ) → width_by t.words s l i ≡ width_at s l i
+  width_is : (i : ℕ) → width_by t.grammar s l i ≡ width_at s l i
   width_is i = ap (λ (b : Bool). text_width b (value_at s l i)) (t.texts_are (code_at s l i))
 
   -- with room for the texts each is as long as its value says
-  pub entries_texted : (n at txt : ℕ) → l.text + txt + widths_of (entries_at t.words s l at txt n) ≤ length s
-      → WellTexted (entries_at t.words s l at txt n)
+  pub entries_texted : (n at txt : ℕ) → l.text + txt + widths_of (entries_at t.grammar s l at txt n) ≤ length s
+      → WellTexted (entries_at t.grammar s l at txt n)
   entries_texted zero at txt h = all_nil
   entries_texted (suc n) at txt h =
       let w = width_is at in
-      all_cons (length_part s (l.text + txt) (width_by t.words s l at) (omega arith) ∙ w)
-      (entries_texted n (at + 1) (txt + width_by t.words s l at) (omega arith))
+      all_cons (length_part s (l.text + txt) (width_by t.grammar s l at) (omega arith) ∙ w)
+      (entries_texted n (at + 1) (txt + width_by t.grammar s l at) (omega arith))
 
   -- entries that stand somewhere are those that are read there
   pub entries_stand : (at txt : ℕ) {es : List Entry} → WellTexted es → Values64 es → Stands s l.codes l.values l.text at txt es → (k : ℕ)
-      → entries_at t.words s l at txt (length es + k) ≡ es ++ entries_at t.words s l (at + length es) (txt + length (text_of es)) k
+      → entries_at t.grammar s l at txt (length es + k) ≡ es ++ entries_at t.grammar s l (at + length es) (txt + length (text_of es)) k
   unfolding text_of
   entries_stand at txt all_nil v h k = rw (zero-add, add-zero, add-zero)
   entries_stand at txt (all_cons {a = e} {l = es} w ws) v h k =
@@ -69,7 +70,7 @@ value_64 s l at h =
     lt_of_lt_of_le (from_le_lt x (bytes_take 8 (drop (l.values + 8 * at) s) (bytes_drop (l.values + 8 * at) s h)))
     (pow-le-pow_right {n = 256} (lit< tt) {i = length x} {j = 8} k)
 
-pub values_64 : (g s : List ℕ) (l : Layout) (n at txt : ℕ) → Bytes s → Values64 (entries_at g s l at txt n)
+pub values_64 : (g : Rules) (s : List ℕ) (l : Layout) (n at txt : ℕ) → Bytes s → Values64 (entries_at g s l at txt n)
 values_64 g s l zero at txt h = all_nil
 values_64 g s l (suc n) at txt h = all_cons (value_64 s l at h) (values_64 g s l n (at + 1) (txt + width_by g s l at) h)
 
@@ -109,7 +110,7 @@ module _ (t : Table) (s : List ℕ) (l : Layout) where
   -- the sections are split into the entries that are read, if these take all text
   pub split_entries : (m at txt : ℕ) → l.codes + at + m ≤ length s → l.values + 8 * at + 8 * m ≤ length s
       → split (part s (l.codes + at) m) (part s (l.values + 8 * at) (8 * m)) (drop (l.text + txt) s)
-      ≡ pick (eqb (widths_of (entries_at t.words s l at txt m)) (length (drop (l.text + txt) s))) (some (entries_at t.words s l at txt m)) none
+      ≡ pick (eqb (widths_of (entries_at t.grammar s l at txt m)) (length (drop (l.text + txt) s))) (some (entries_at t.grammar s l at txt m)) none
   unfolding split
   split_entries zero at txt h₁ h₂ = go (drop (l.text + txt) s)
     where
@@ -126,7 +127,7 @@ module _ (t : Table) (s : List ℕ) (l : Layout) where
       let w : drop width u ≡ drop (l.text + (txt + width)) s =
       drop-drop width (l.text + txt) s ∙ rw add_assoc in
       rw (width_is t s l at, n, part_cons s (l.codes + at) m (omega arith), take-take 8 (8 + 8 * m) (drop x s) (omega arith))
-      (take_entry_lem (code_at s l at) (value_at s l at) width (widths_of (entries_at t.words s l (at + 1) (txt + width) m)) u
-      (λ y. split (part s (l.codes + at + 1) m) (drop 8 (part s x (8 + 8 * m))) y) (entries_at t.words s l (at + 1) (txt + width) m)
+      (take_entry_lem (code_at s l at) (value_at s l at) width (widths_of (entries_at t.grammar s l (at + 1) (txt + width) m)) u
+      (λ y. split (part s (l.codes + at + 1) m) (drop 8 (part s x (8 + 8 * m))) y) (entries_at t.grammar s l (at + 1) (txt + width) m)
       (rw (w, c, part_behind s x 8 (8 * m) (omega arith), v)
       (split_entries m (at + 1) (txt + width) (omega arith) (omega arith))))

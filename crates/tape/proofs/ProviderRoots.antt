@@ -17,7 +17,7 @@ use Rattle.format.specs.Tape.{texts_within, short_texts, provider_root, argument
 use Rattle.format.proofs.Becomes.{tally_append}
 use Rattle.format.proofs.Exact.{lawful_argument, lawful_provider}
 use Rattle.grammar.specs.Provider as sort
-use Rattle.grammar.specs.Words.{provider_words}
+use Rattle.grammar.specs.Words.{provider_grammar}
 use Rattle.grammar.proofs.ProviderMarks.{is_argument, argument_weight, longest_marks}
 use Rattle.tape.proofs.Acceptance.{RootBy}
 use Rattle.tape.proofs.Passing.{short_in}
@@ -26,7 +26,7 @@ use Rattle.tape.proofs.Roots.{depth_limits}
 
 -- ------------------------------------------------------------------ texts and entries
 
-short_texts_lem : (es : List Entry) → short_in provider_words 64 es ≡ short_texts es
+short_texts_lem : (es : List Entry) → short_in provider_grammar 64 es ≡ short_texts es
 unfolding texts_within
 short_texts_lem [] = refl
 short_texts_lem (e ∷ es) = rw (longest_marks e.code, short_texts_lem es)
@@ -59,7 +59,7 @@ no_or_provider (Provider.call c) = omega (arith, no_or_arguments c.args)
 no_or_provider (Provider.argument a) = no_or_argument a
 
 short_entries : (es : List Entry) → tally 2 es ≡ 0 → length es ≤ 1024
-    → (short_in provider_words 64 es && leb (length es + 3 * tally 2 es) 1024) ≡ short_texts es
+    → (short_in provider_grammar 64 es && leb (length es + 3 * tally 2 es) 1024) ≡ short_texts es
 short_entries es none h =
     rw (short_texts_lem es, le-leb (length es + 3 * tally 2 es) 1024 (omega (arith, none))) (and-true (short_texts es))
 

@@ -14,7 +14,7 @@ use Rattle.format.specs.Provider.{Arg, Args, Provider, length_arguments, flat_ar
 use Rattle.format.specs.Tape.{is_text, text_width}
 use Rattle.grammar.specs.Pick.{pick}
 use Rattle.grammar.specs.Provider as sort
-use Rattle.grammar.specs.Words.{provider_words, follows_of}
+use Rattle.grammar.specs.Words.{provider_grammar, follows_of}
 use Rattle.grammar.proofs.ProviderMarks.{is_argument, provider}
 use Rattle.tape.proofs.Found.{Language}
 use Rattle.tape.proofs.Passing.{PassesBy, none, ◌then◌, ◌before◌, node, tip, plain}
@@ -28,7 +28,7 @@ Passes ss es d = PassesBy provider ss es d true
 
 -- to unfold this is to unfold what decides an entry of a known code
 decides : Unit {0}
-unfolding is_argument weigh is_text is_code text_width provider_words follows_of
+unfolding is_argument weigh is_text is_code text_width provider_grammar follows_of
 decides = tt
 
 -- format weighs an argument as the term of its kind; this is the argument's code, of the term's
@@ -101,10 +101,10 @@ items = listed shapes length_arguments flat_arguments sort.argument Args.no_args
 
 -- to unfold this is to unfold what a case computes with
 cases : Unit {0}
-unfolding flat_provider flat_method_call flat_argument is_text is_code text_width provider_words follows_of
+unfolding flat_provider flat_method_call flat_argument is_text is_code text_width provider_grammar follows_of
 cases = tt
 
-arguments_of : Each (Built shapes provider_words sort.argument) 71 6
+arguments_of : Each (Built shapes provider_grammar sort.argument) 71 6
 unfolding cases
 arguments_of =
     71 by (λ v t ok h xs. let l = texts v xs in (Arg.Field l.list, counting shapes 71 v t l h)) &
@@ -115,7 +115,7 @@ arguments_of =
     76 by (λ v t ok h xs. let l = items v xs in (Arg.Set l.list, counting shapes 76 v t l h)) &
     end
 
-roots : Each (Built shapes provider_words sort.root) 70 7
+roots : Each (Built shapes provider_grammar sort.root) 70 7
 unfolding cases
 roots =
     70 by (λ v t ok h xs. (
@@ -131,20 +131,20 @@ roots =
     76 by (λ v t ok h xs. let l = items v xs in (Provider.argument (Arg.Set l.list), counting shapes 76 v t l h)) &
     end
 
-text : Each (Built shapes provider_words sort.text) 40 1
+text : Each (Built shapes provider_grammar sort.text) 40 1
 unfolding cases
 text =
     40 by (λ v t ok h xs. (t, spelt shapes 40 v t h [] xs)) &
     end
 
-list : Each (Built shapes provider_words sort.arguments) 41 1
+list : Each (Built shapes provider_grammar sort.arguments) 41 1
 unfolding cases
 list =
     41 by (λ v t ok h xs. let l = items v xs in (l.list, counting shapes 41 v t l h)) &
     end
 
-pub all_cases : Cases shapes provider_words
-unfolding provider_words
+pub all_cases : Cases shapes provider_grammar
+unfolding provider_grammar
 all_cases =
     0 by (end, end) & 1 by (roots, end) & 2 by (arguments_of, end) & 3 by (text, end) & 4 by (list, end) & 5 by (end, end) &
     6 by (end, end) & 7 by (end, end) & 8 by (end, end) & 9 by (end, end) & 10 by (end, end) & 11 by (end, end) &
@@ -154,4 +154,4 @@ all_cases =
     30 by (end, end) & 31 by (end, end) & end
 
 abbrev pub provider_trees : Language provider
-provider_trees = record { Tree = Typed shapes; spell = flat_at shapes; built = built shapes provider_words all_cases }
+provider_trees = record { Tree = Typed shapes; spell = flat_at shapes; built = built shapes provider_grammar all_cases }

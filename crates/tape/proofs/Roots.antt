@@ -24,7 +24,7 @@ use Rattle.format.proofs.Rewritten.{Rewrites}
 use Rattle.format.proofs.Spells.{s_condition_root, s_call, s_definition, s_registry_root}
 use Rattle.format.proofs.Stands.{stands_encoded}
 use Rattle.grammar.specs.Grammar as sort
-use Rattle.grammar.specs.Words.{temporal_words}
+use Rattle.grammar.specs.Words.{temporal_grammar}
 use Rattle.grammar.specs.Waits.{is_limited}
 use Rattle.grammar.proofs.Marks.{longest_marks, longest_64}
 use Rattle.tape.specs.Accept.{accept_named}
@@ -38,7 +38,7 @@ use Rattle.format.proofs.Weights.{or_calls, or_nodes}
 use Rattle.tape.proofs.Trees.{passes_condition, passes_term, passes_call, passes_definition, passes_registry}
 
 -- the texts that are short by the table's marks are those that are short
-named_texts : (most : ℕ) (es : List Entry) → short_in temporal_words most es ≡ texts_within (longest_named most) es
+named_texts : (most : ℕ) (es : List Entry) → short_in temporal_grammar most es ≡ texts_within (longest_named most) es
 unfolding texts_within
 named_texts most [] = refl
 named_texts most (e ∷ es) = rw (longest_marks most e.code, named_texts most es)
@@ -55,7 +55,7 @@ rooted_weighted : {A : Type 0} {root : Root A} {a : A} → Rooted root a → Roo
 unfolding weighted
 rooted_weighted h = record { stack = h.stack; built = h.built; taken = h.taken }
 
-short_entries : (es : List Entry) → (short_in temporal_words 64 es && leb (length es + 3 * tally 2 es) 1024)
+short_entries : (es : List Entry) → (short_in temporal_grammar 64 es && leb (length es + 3 * tally 2 es) 1024)
     ≡ (short_texts es && leb (length es + 3 * tally 2 es) 1024)
 short_entries es = ap (λ (b : Bool). b && leb (length es + 3 * tally 2 es) 1024) (named_texts 64 es ∙ short_texts_lem es)
 

@@ -20,7 +20,7 @@ use Rattle.format.proofs.Stands.{text_append, stands_front, stands_back, stands_
 use Rattle.tape.specs.Layouts.{layout, area_layout, Held, holds, code_at, value_at, entries_at, size_between}
 use Rattle.grammar.specs.Counts.{due_of, has_pairs, count_words}
 use Rattle.grammar.specs.Waits.{wait}
-use Rattle.grammar.specs.Words.{temporal_words}
+use Rattle.grammar.specs.Words.{temporal_grammar}
 use Rattle.grammar.proofs.Counted.{start_counts}
 use Rattle.grammar.proofs.Marks.{Table, temporal}
 use Rattle.tape.specs.Pick.{pick}
@@ -92,7 +92,7 @@ kind (Some (p, over)) = 1
 
 module _ {t : Table} {s : List ℕ} {l : Layout} {p : Place} {es : List Entry} {sort : ℕ} {d : (ℕ → ℕ) → ℕ} {x : Bool} where
   scan_run : (b : PassesBy t (sort ∷ []) es d x) → sort < 32 → Run s l p es
-      → scan_at t.words s l p sort 0 ≡ Some (place (p.at + length es) (p.text + length (text_of es)), b.over 0 0 0)
+      → scan_at t.grammar s l p sort 0 ≡ Some (place (p.at + length es) (p.text + length (text_of es)), b.over 0 0 0)
   scan_run b h r =
       let starts_there : starts s l p sort ≡ true =
       is_true (starting s l p sort (record {
@@ -103,11 +103,11 @@ module _ {t : Table} {s : List ℕ} {l : Layout} {p : Place} {es : List Entry} {
       })) in
       let k = l.entries - p.at - length es in
       let n : l.entries - p.at ≡ length es + k = omega (arith, r.entries_left) in
-      let rest = entries_at t.words s l (p.at + length es) (p.text + length (text_of es)) k in
+      let rest = entries_at t.grammar s l (p.at + length es) (p.text + length (text_of es)) k in
       rw (starts_there, n, entries_stand t s l p.at p.text b.texted r.small_values r.stands k)
       (b.run 0 l.size 0 0 [] rest p.at p.text false (omega arith) (omega arith) r.text_left (any_pass es) ∙ stops rest)
     where
-      stops : (rest : List Entry) {at text : ℕ} {o : Bool} → scan_of t.words 0 l.size rest [] at text o ≡ Some (place at text, o)
+      stops : (rest : List Entry) {at text : ℕ} {o : Bool} → scan_of t.grammar 0 l.size rest [] at text o ≡ Some (place at text, o)
       stops [] = refl
       stops (e ∷ more) = refl
 
@@ -123,8 +123,8 @@ count_run {s} {l} {p} {es} {sort} b h r =
     end : Place
     end = place (p.at + length es) (p.text + length (text_of es))
 
-    go : (y : Bool) {o : Bool} → pick y (scan_from temporal_words s l p sort 0) None ≡ Some (end, o)
-        → EndsAt (scan_from temporal_words s l p sort 0) (count_from count_words s l (l.entries - p.at) (due_of sort) (has_pairs sort) p.at p.text)
+    go : (y : Bool) {o : Bool} → pick y (scan_from temporal_grammar s l p sort 0) None ≡ Some (end, o)
+        → EndsAt (scan_from temporal_grammar s l p sort 0) (count_from count_words s l (l.entries - p.at) (due_of sort) (has_pairs sort) p.at p.text)
         → pick y (count_from count_words s l (l.entries - p.at) (due_of sort) (has_pairs sort) p.at p.text) None ≡ Some end
     go true e c = subst (λ (z : Option (Place × Bool)). EndsAt z (count_from count_words s l (l.entries - p.at) (due_of sort) (has_pairs sort) p.at p.text)) e c
     go false e c = absurd (ended e)
@@ -134,7 +134,7 @@ count_run {s} {l} {p} {es} {sort} b h r =
 
 -- a tree at the start of a layout is too deep if it passes the limits on depths
 pub deep_run : {t : Table} {s : List ℕ} {l : Layout} {es : List Entry} {sort : ℕ} {d : (ℕ → ℕ) → ℕ} → PassesBy t (sort ∷ []) es d true
-    → sort < 32 → Run s l (place 0 0) es → too_deep_in t.words s l sort ≡ not (fits_depths (d (t.nodes false)) (d t.calls))
+    → sort < 32 → Run s l (place 0 0) es → too_deep_in t.grammar s l sort ≡ not (fits_depths (d (t.nodes false)) (d t.calls))
 unfolding fits_depths
 deep_run {t} {d = d} b h r =
     let nodes = d (t.nodes false) in

@@ -1,7 +1,7 @@
--- Trees of the sorts of a table, from entries back: an entry that a sort lets in, with trees for what follows it, spells a tree of the sort. A table
--- has a type of trees for each sort, and a case for each of a sort's codes.
+-- Trees of the sorts of a table, from entries back: an entry that a sort lets in, with trees for what follows it, spells a tree of the
+-- sort. A table has a type of trees for each sort, and a case for each of a sort's codes.
 -- Assumes nothing.
-use Prim.Native.Nat.{ℕ, zero, suc, ◌+◌, ◌-◌, ◌/◌, ◌%◌, ◌≤◌, ◌<◌}
+use Prim.Native.Nat.{ℕ, zero, suc, ◌+◌, ◌-◌, ◌%◌, ◌≤◌, ◌<◌}
 use mathlib.Core.Path.{◌≡◌, refl, ap, sym, subst, ◌∙◌}
 use mathlib.Core.Bool.{Bool, true, false, ◌&&◌, ◌||◌}
 use mathlib.Core.List.{List, [], ◌∷◌, ◌++◌, append-nil}
@@ -15,8 +15,9 @@ use Rattle.format.specs.Flat.{flat_bool}
 use Rattle.format.specs.Tape.{is_text, text_width}
 use Rattle.format.proofs.Tests.{and_left, and_right, and_both, from_true, is_true}
 use Rattle.grammar.specs.Grammar.{sorts_of}
-use Rattle.grammar.specs.Words.{sort_at, row_at, in_sort, values_of, follows_in, follows_of}
+use Rattle.grammar.specs.Words.{Rules, no_codes, sort_at, row_at, in_sort, values_of, follows_in, follows_of}
 use Rattle.grammar.specs.Waits.{valued}
+use Rattle.grammar.specs.declared.rules.SortRule.{SortRule}
 use Rattle.tape.proofs.Found.{TreesOf, spell_all}
 use Rattle.tape.proofs.Passing.{allowed, sorts_below}
 
@@ -145,42 +146,46 @@ module _ (shapes : List Shape) where
 
   -- ---------------------------------------------------------------- a case for each sort and code
 
-  module _ (words : List ℕ) where
-    -- the sorts of what follows a code k at a place of the sort with the number n
+  module _ (grammar : Rules) where
+    -- what the table says of the sort with the number n
+    abbrev pub rule_at : ℕ → SortRule
+    rule_at n = get_or grammar.sorts n no_codes
+
+    -- the sorts of what follows a code k at a place of that sort
     abbrev pub sorts_at : ℕ → ℕ → ℕ → List ℕ
-    sorts_at n k v = sorts_of (follows_of (follows_in (get_or words n 0) (row_at words k))) v
+    sorts_at n k v = sorts_of (follows_of (follows_in (rule_at n) (row_at grammar k))) v
 
     -- a tree of that sort that starts with the code k
     abbrev pub Built : ℕ → ℕ → Type 0
     Built n k =
-        (v : ℕ) (t : Text) → valued (values_of (row_at words k)) v ≡ true → length t ≡ text_width (is_text k) v → (xs : All (sorts_at n k v))
+        (v : ℕ) (t : Text) → valued (values_of (row_at grammar k)) v ≡ true → length t ≡ text_width (is_text k) v → (xs : All (sorts_at n k v))
         → (x : (shape_at n).Tree) × ((shape_at n).spell x ≡ coded k v t ∷ flat_all (sorts_at n k v) xs)
 
     -- a case for each code of the two ranges of the sort with the number n
-    abbrev pub Ranged : (sort n : ℕ) → Type 0
+    abbrev pub Ranged : (sort : SortRule) → ℕ → Type 0
     Ranged sort n =
-        Each (Built n) (sort % 256) (sort / 256 % 256 - sort % 256)
-        × Each (Built n) (sort / 65536 % 256) (sort / 16777216 % 256 - sort / 65536 % 256)
+        Each (Built n) sort.low (sort.end - sort.low)
+        × Each (Built n) sort.low_too (sort.end_too - sort.low_too)
 
-    in_ranges : (sort n k : ℕ) → Ranged sort n → T (in_sort sort k) → Built n k
+    in_ranges : (sort : SortRule) (n k : ℕ) → Ranged sort n → T (in_sort sort k) → Built n k
     in_ranges sort n k cases t =
-        let low = leb (sort % 256) k in
-        go (ltb k (sort / 256 % 256)) (λ u. in_range (sort % 256) (sort / 256 % 256) cases.0 k (and_both low _ (and_left low _ t) u))
+        let low = leb sort.low k in
+        go (ltb k sort.end) (λ u. in_range sort.low sort.end cases.0 k (and_both low _ (and_left low _ t) u))
         (and_right low _ t)
       where
-        go : (b : Bool) → (T b → Built n k) → T (b || leb (sort / 65536 % 256) k && ltb k (sort / 16777216 % 256)) → Built n k
+        go : (b : Bool) → (T b → Built n k) → T (b || leb sort.low_too k && ltb k sort.end_too) → Built n k
         go true first t = first tt
-        go false first t = in_range (sort / 65536 % 256) (sort / 16777216 % 256) cases.1 k t
+        go false first t = in_range sort.low_too sort.end_too cases.1 k t
 
     abbrev pub Cases : Type 0
-    Cases = Each (λ n. Ranged (get_or words n 0) n) 0 32
+    Cases = Each (λ n. Ranged (rule_at n) n) 0 32
 
     -- an entry that a sort lets in, in front of trees for what follows it
-    pub built : Cases → (s : ℕ) (e : Entry) → allowed words s e ≡ true → length e.text ≡ text_width (is_text e.code) e.value
-        → (xs : All (sorts_below words s e)) → (x : Typed s) × (flat_at s x ≡ e ∷ flat_all (sorts_below words s e) xs)
+    pub built : Cases → (s : ℕ) (e : Entry) → allowed grammar s e ≡ true → length e.text ≡ text_width (is_text e.code) e.value
+        → (xs : All (sorts_below grammar s e)) → (x : Typed s) × (flat_at s x ≡ e ∷ flat_all (sorts_below grammar s e) xs)
     built all_cases s e ok h xs =
         let t = from_true ok in
-        let a = in_sort (sort_at words s) e.code in
+        let a = in_sort (sort_at grammar s) e.code in
         let n = s % 32 in
-        in_ranges (get_or words n 0) n e.code (each all_cases n (omega arith) (omega arith)) (and_left a _ t) e.value e.text
+        in_ranges (rule_at n) n e.code (each all_cases n (omega arith) (omega arith)) (and_left a _ t) e.value e.text
         (is_true (and_right a _ t)) h xs

@@ -13,7 +13,7 @@ use lib.ListN.{length}
 use Rattle.format.specs.Entry.{Entry}
 use Rattle.format.proofs.Tests.{and_left, and_right, from_true, is_true}
 use Rattle.grammar.specs.Counts.{count_words, step_in}
-use Rattle.grammar.specs.Words.{temporal_words, in_sort, values_of, follows_of}
+use Rattle.grammar.specs.Words.{temporal_grammar, in_sort, values_of, follows_of}
 use Rattle.grammar.specs.Waits.{Wait, waits, head_of, valued, counted, accepts, exceeds, below}
 use Rattle.grammar.specs.declared.entry.Head.{Head}
 use Rattle.grammar.proofs.Counted.{Counts, step_counts, none_waits, some_waits, width_counts}
@@ -32,9 +32,9 @@ waiting_append : (n k : ℕ) (ss : List ℕ) (st : List Wait) → sorts_waiting 
 waiting_append n k [] st = refl
 waiting_append n k (s ∷ ss) st = ap (λ (l : List ℕ). s ∷ l) (waiting_append n k ss st)
 
-entries_length : (s : List ℕ) (l : Layout) (n at txt : ℕ) → length (entries_at temporal_words s l at txt n) ≡ n
+entries_length : (s : List ℕ) (l : Layout) (n at txt : ℕ) → length (entries_at temporal_grammar s l at txt n) ≡ n
 entries_length s l zero at txt = refl
-entries_length s l (suc n) at txt = ap suc (entries_length s l n (at + 1) (txt + width_by temporal_words s l at))
+entries_length s l (suc n) at txt = ap suc (entries_length s l n (at + 1) (txt + width_by temporal_grammar s l at))
 
 -- what the place behind is, if there is one
 abbrev pub EndsAt : Option (Place × Bool) → Option Place → Type 0
@@ -43,7 +43,7 @@ EndsAt None x = Unit {0}
 
 module _ (s : List ℕ) (l : Layout) where
   pub counted_ends : (left : ℕ) {pairs : Bool} {due : ℕ} (st : List Wait) (at text : ℕ) (over : Bool) → Counts pairs due (sorts_waiting st)
-      → EndsAt (scan_of temporal_words 0 l.size (entries_at temporal_words s l at text left) st at text over)
+      → EndsAt (scan_of temporal_grammar 0 l.size (entries_at temporal_grammar s l at text left) st at text over)
       (count_from count_words s l left due pairs at text)
   counted_ends zero {due = due} [] at text over k = rw (eq-eqb due 0 (none_waits k)) refl
   counted_ends zero (w ∷ st) at text over k = tt
@@ -58,16 +58,16 @@ module _ (s : List ℕ) (l : Layout) where
       value = value_at s l at
 
       first : Head
-      first = head_of temporal_words w.sort code value
+      first = head_of temporal_grammar w.sort code value
 
       es : List Entry
-      es = entries_at temporal_words s l (at + 1) (text + width_by temporal_words s l at) left
+      es = entries_at temporal_grammar s l (at + 1) (text + width_by temporal_grammar s l at) left
 
       lets_in : Bool
       lets_in = accepts (length es) (l.size - text) first && true
 
       scanned : Option (Place × Bool)
-      scanned = scan_of temporal_words 0 l.size es (below 0 w first ++ st) (at + 1) (text + first.text) (over || exceeds 0 w first)
+      scanned = scan_of temporal_grammar 0 l.size es (below 0 w first ++ st) (at + 1) (text + first.text) (over || exceeds 0 w first)
 
       go : (b : Bool) → lets_in ≡ b
           → ((p : Bool) (d : ℕ) → Counts p d (sorts_waiting (below 0 w first ++ st))
@@ -84,7 +84,7 @@ module _ (s : List ℕ) (l : Layout) where
           let wide = leb→le first.text (l.size - text) (and_right (leb more (length es)) _ r) in
           let same = width_counts code value in
           let step = step_counts left (l.size - text) code value k (is_true (and_left i _ a))
-          (omega (arith, fits, entries_length s l left (at + 1) (text + width_by temporal_words s l at))) (omega (arith, wide, same)) in
+          (omega (arith, fits, entries_length s l left (at + 1) (text + width_by temporal_grammar s l at))) (omega (arith, wide, same)) in
           rw (ne_eqb due 0 (some_waits k), step.steps)
           (subst (λ (n : ℕ). EndsAt scanned (count_from count_words s l left (due - 1 + step.more) step.next (at + 1) (text + n))) same
           (next step.next (due - 1 + step.more) (rw (waiting_append _ _ _ st) step.counts)))

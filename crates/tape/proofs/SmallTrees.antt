@@ -17,7 +17,7 @@ use Rattle.format.proofs.All.{All, all_nil, all_cons, all_append, all_map}
 use Rattle.format.proofs.Stands.{part_cons}
 use Rattle.format.proofs.Tests.{and_left, and_right, from_true, is_true}
 use Rattle.grammar.specs.Grammar.{sorts_of}
-use Rattle.grammar.specs.Words.{temporal_words, sort_at, row_at, in_sort, nesting_of, calls_of, follows_of}
+use Rattle.grammar.specs.Words.{Rules, temporal_grammar, sort_at, row_at, in_sort, nesting_of, calls_of, follows_of}
 use Rattle.grammar.specs.Waits.{Wait, wait, waits, head_of, accepts, deeper, enclosed, exceeds, below}
 use Rattle.grammar.specs.declared.entry.Head.{Head}
 use Rattle.grammar.proofs.Depths.{room_of, is_enough, bounded}
@@ -63,7 +63,7 @@ pub few_branches : (s : List ℕ) (k n : ℕ) → n ≤ 1024 → sum_of branch_w
 few_branches s k n h = few_such is_branch s k n h
 
 abbrev calls_in : ℕ → ℕ
-calls_in c = calls_of (row_at temporal_words c)
+calls_in c = calls_of (row_at temporal_grammar c)
 
 calls_marks : (c : ℕ) → calls_in c ≡ weight_of 54 c
 unfolding is_call
@@ -73,7 +73,7 @@ abbrev codes_of : List Entry → List ℕ
 codes_of [] = []
 codes_of (e ∷ es) = e.code ∷ codes_of es
 
-codes_are : (g s : List ℕ) (l : Layout) (n at txt : ℕ) → l.codes + at + n ≤ length s
+codes_are : (g : Rules) (s : List ℕ) (l : Layout) (n at txt : ℕ) → l.codes + at + n ≤ length s
     → codes_of (entries_at g s l at txt n) ≡ part s (l.codes + at) n
 codes_are g s l zero at txt h = refl
 codes_are g s l (suc n) at txt h =
@@ -103,7 +103,7 @@ module _ (weight : ℕ → ℕ) (rooms : List ℕ) (all : T (is_enough weight ro
 
   module _ (w : Wait) (code value : ℕ) where
     abbrev head : Head
-    head = head_of temporal_words w.sort code value
+    head = head_of temporal_grammar w.sort code value
 
     -- what an entry at such a place does
     record Stays (nodes calls : ℕ) : Type 0 where
@@ -124,7 +124,7 @@ module _ (weight : ℕ → ℕ) (rooms : List ℕ) (all : T (is_enough weight ro
   nodes_in es = sum_of weight (codes_of es)
 
   flat_scan : (size : ℕ) (es : List Entry) (st : List Wait) (at text : ℕ) → All (Low (nodes_in es) (calls_among es)) st
-      → over_of (scan_of temporal_words 0 size es st at text false) ≡ false
+      → over_of (scan_of temporal_grammar 0 size es st at text false) ≡ false
   flat_scan size [] [] at text h = refl
   flat_scan size [] (w ∷ st) at text h = refl
   flat_scan size (e ∷ es) [] at text h = refl
@@ -140,13 +140,13 @@ module _ (weight : ℕ → ℕ) (rooms : List ℕ) (all : T (is_enough weight ro
 
       go : (b : Bool) → lets_in ≡ b
           → (All (Low (nodes_in es) (calls_among es)) (below 0 w first)
-          → over_of (scan_of temporal_words 0 size es (below 0 w first ++ st) (at + 1) (text + first.text) false) ≡ false)
-          → over_of (pick b (scan_of temporal_words 0 size es (below 0 w first ++ st) (at + 1) (text + first.text) (exceeds 0 w first)) None)
+          → over_of (scan_of temporal_grammar 0 size es (below 0 w first ++ st) (at + 1) (text + first.text) false) ≡ false)
+          → over_of (pick b (scan_of temporal_grammar 0 size es (below 0 w first ++ st) (at + 1) (text + first.text) (exceeds 0 w first)) None)
           ≡ false
       go false a next = refl
       go true a next =
           let u = and_left (accepts (length es) (size - text) first) _ (from_true a) in
-          let i = is_true (and_left (in_sort (sort_at temporal_words w.sort) e.code) _ u) in
+          let i = is_true (and_left (in_sort (sort_at temporal_grammar w.sort) e.code) _ u) in
           let k = stays w e.code e.value (nodes_in es) (calls_among es) i p in
           rw k.passes (next k.lower)
 
@@ -154,7 +154,7 @@ module _ (weight : ℕ → ℕ) (rooms : List ℕ) (all : T (is_enough weight ro
 
 -- every entry weighs one, and there are no more nodes on a path
 each_one : T (is_enough (λ (c : ℕ). 1) [])
-unfolding temporal_words follows_of
+unfolding temporal_grammar follows_of
 each_one = tt
 
 abbrev branches_weigh : ℕ → ℕ
@@ -170,7 +170,7 @@ branch_rooms =
     ∷ 2 ∷ 0 ∷ 2 ∷ []  -- arguments; definitions
 
 branches : T (is_enough branches_weigh branch_rooms)
-unfolding temporal_words follows_of weigh
+unfolding temporal_grammar follows_of weigh
 branches = tt
 
 rooms_most : (s : ℕ) → room_of branch_rooms s ≤ 3
@@ -185,12 +185,12 @@ flat_shallow s l sort flat = go (starts s l (record { at = 0; text = 0 }) sort)
     h = held s l (and_left (holds s l) _ (from_true flat))
 
     es : List Entry
-    es = entries_at temporal_words s l 0 0 (l.entries - 0)
+    es = entries_at temporal_grammar s l 0 0 (l.entries - 0)
 
     codes_there : codes_of es ≡ part s l.codes l.entries
     codes_there =
         let n : l.entries - 0 ≡ l.entries = omega arith in
-        codes_are temporal_words s l (l.entries - 0) 0 0 (omega (arith, h.codes_held)) ∙ rw (n, add-zero l.codes) refl
+        codes_are temporal_grammar s l (l.entries - 0) 0 0 (omega (arith, h.codes_held)) ∙ rw (n, add-zero l.codes) refl
 
     small : T (is_small s l)
     small = and_right (holds s l) _ (from_true flat)
@@ -202,11 +202,11 @@ flat_shallow s l sort flat = go (starts s l (record { at = 0; text = 0 }) sort)
         let calls : calls_among es ≡ sum_in (weight_of 54) s l = sum_same calls_marks (codes_of es) ∙ ap (sum_of (weight_of 54)) codes_there in
         omega arith
 
-    scanned : over_of (scan_of temporal_words 0 l.size es (wait sort 0 0 ∷ []) 0 0 false) ≡ false
+    scanned : over_of (scan_of temporal_grammar 0 l.size es (wait sort 0 0 ∷ []) 0 0 false) ≡ false
     scanned = by (leb l.entries 64) (leb→le l.entries 64) (and_right (leb (sum_in (weight_of 54) s l) 4) _ small)
       where
         by : (b : Bool) → (T b → l.entries ≤ 64) → T (b || leb (sum_in branch_weight s l + 2 * sum_in (weight_of 30) s l) 61)
-            → over_of (scan_of temporal_words 0 l.size es (wait sort 0 0 ∷ []) 0 0 false) ≡ false
+            → over_of (scan_of temporal_grammar 0 l.size es (wait sort 0 0 ∷ []) 0 0 false) ≡ false
         by true f t =
             let n : sum_of (λ (c : ℕ). 1) (codes_of es) ≡ length (part s l.codes l.entries) = sum_ones (codes_of es) ∙ ap length codes_there in
             let m = length-take l.entries (drop l.codes s) in
@@ -220,6 +220,6 @@ flat_shallow s l sort flat = go (starts s l (record { at = 0; text = 0 }) sort)
             flat_scan branches_weigh branch_rooms branches l.size es (wait sort 0 0 ∷ []) 0 0
             (all_cons {a = wait sort 0 0} (record { calls_low = omega (arith, few_calls); nesting_low = omega (arith, rooms_most sort, n, k) }) all_nil)
 
-    go : (b : Bool) → over_of (pick b (scan_from temporal_words s l (record { at = 0; text = 0 }) sort 0) None) ≡ false
+    go : (b : Bool) → over_of (pick b (scan_from temporal_grammar s l (record { at = 0; text = 0 }) sort 0) None) ≡ false
     go false = refl
     go true = scanned

@@ -36,12 +36,12 @@ use Rattle.format.specs.Macro.{is_code}
 use Rattle.format.specs.Tape.{is_text, text_width, few_params, few_params_each}
 use Rattle.grammar.specs.Grammar as sort
 use Rattle.grammar.specs.Waits.{valued}
-use Rattle.grammar.specs.Words.{temporal_words, follows_of}
+use Rattle.grammar.specs.Words.{temporal_grammar, follows_of}
 use Rattle.tape.proofs.Passing.{not_ltb, Passes, none, ◌then◌, ◌before◌, node, tip, plain}
 
 -- to unfold this is to unfold what decides an entry of a known code
 decides : Unit {0}
-unfolding is_node is_call weigh or_weight is_text is_code text_width temporal_words follows_of
+unfolding is_node is_call weigh or_weight is_text is_code text_width temporal_grammar follows_of
 decides = tt
 
 -- ------------------------------------------------------------------ parts in which nothing is deep

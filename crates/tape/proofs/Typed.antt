@@ -35,7 +35,7 @@ use Rattle.format.specs.Flat.{flat_texts, flat_interval, flat_within, flat_slot,
 use Rattle.format.specs.Macro.{is_code}
 use Rattle.format.specs.Tape.{is_text, text_width}
 use Rattle.grammar.specs.Grammar as sort
-use Rattle.grammar.specs.Words.{temporal_words, follows_of}
+use Rattle.grammar.specs.Words.{temporal_grammar, follows_of}
 use Rattle.grammar.proofs.Marks.{temporal}
 use Rattle.tape.proofs.Found.{Language}
 use Rattle.tape.proofs.Shapes.{Shape, shape, no_shape, Typed, flat_at, All, joined_all, valued_as, spanned, zeroed, spelt, Listed, listed, counting, bool, Each, end, ◌by◌&◌, Built, Cases, built}
@@ -125,10 +125,10 @@ arith_op (suc (suc (suc v))) h = absurd (omega (arith, ltb-true (suc (suc (suc v
 
 -- to unfold this is to unfold what a case computes with
 cases : Unit {0}
-unfolding open_flat is_text is_code text_width temporal_words follows_of
+unfolding open_flat is_text is_code text_width temporal_grammar follows_of
 cases = tt
 
-conditions : Each (Built shapes temporal_words sort.condition) 1 13
+conditions : Each (Built shapes temporal_grammar sort.condition) 1 13
 unfolding cases
 conditions =
     1 by (λ v t ok h xs. (Condition.And v xs.0 xs.1.0, spanned shapes 1 v t h (sort.condition ∷ sort.condition ∷ []) xs)) &
@@ -153,7 +153,7 @@ conditions =
     13 by (λ v t ok h xs. (Condition.Refine v xs.0 xs.1.0 xs.1.1.0, spanned shapes 13 v t h (sort.span ∷ sort.condition ∷ sort.fields ∷ []) xs)) &
     end
 
-terms_of : Each (Built shapes temporal_words sort.term) 20 14
+terms_of : Each (Built shapes temporal_grammar sort.term) 20 14
 unfolding cases
 terms_of =
     20 by (λ v t ok h xs. (Term.Entity xs.0 xs.1.0, zeroed shapes 20 v t ok h (sort.text ∷ sort.text ∷ []) xs)) &
@@ -173,7 +173,7 @@ terms_of =
     33 by (λ v t ok h xs. (Term.BinderRef t, spelt shapes 33 v t h [] xs)) &
     end
 
-aggregates : Each (Built shapes temporal_words sort.aggregate) 34 3
+aggregates : Each (Built shapes temporal_grammar sort.aggregate) 34 3
 unfolding cases
 aggregates =
     34 by (λ v t ok h xs. (AggExpr.Sum v xs.0 xs.1.0 xs.1.1.0, spanned shapes 34 v t h (sort.slot ∷ sort.bindings ∷ sort.condition ∷ []) xs)) &
@@ -181,19 +181,19 @@ aggregates =
     36 by (λ v t ok h xs. (AggExpr.AggCall v xs.0, spanned shapes 36 v t h (sort.call ∷ []) xs)) &
     end
 
-text : Each (Built shapes temporal_words sort.text) 40 1
+text : Each (Built shapes temporal_grammar sort.text) 40 1
 unfolding cases
 text =
     40 by (λ v t ok h xs. (t, spelt shapes 40 v t h [] xs)) &
     end
 
-span : Each (Built shapes temporal_words sort.span) 42 1
+span : Each (Built shapes temporal_grammar sort.span) 42 1
 unfolding cases
 span =
     42 by (λ v t ok h xs. (v, spanned shapes 42 v t h [] xs)) &
     end
 
-slots : Each (Built shapes temporal_words sort.slot) 43 3
+slots : Each (Built shapes temporal_grammar sort.slot) 43 3
 unfolding cases
 slots =
     43 by (λ v t ok h xs. (BinderSlot.Name t, spelt shapes 43 v t h [] xs)) &
@@ -201,14 +201,14 @@ slots =
     45 by (λ v t ok h xs. (BinderSlot.BinderRef t, spelt shapes 45 v t h [] xs)) &
     end
 
-types : Each (Built shapes temporal_words sort.type) 46 2
+types : Each (Built shapes temporal_grammar sort.type) 46 2
 unfolding cases
 types =
     46 by (λ v t ok h xs. (BinderType.Timepoint, zeroed shapes 46 v t ok h [] xs)) &
     47 by (λ v t ok h xs. let l = texts v xs in (BinderType.Named l.list, counting shapes 47 v t l h)) &
     end
 
-withins : Each (Built shapes temporal_words sort.within) 48 5
+withins : Each (Built shapes temporal_grammar sort.within) 48 5
 unfolding cases
 withins =
     48 by (λ v t ok h xs. (WithinSpec.Concrete (record { amount = v; unit = TimeUnit.Seconds }), spanned shapes 48 v t h [] xs)) &
@@ -218,13 +218,13 @@ withins =
     52 by (λ v t ok h xs. (WithinSpec.ParamRef t, spelt shapes 52 v t h [] xs)) &
     end
 
-week_within : Each (Built shapes temporal_words sort.within) 64 1
+week_within : Each (Built shapes temporal_grammar sort.within) 64 1
 unfolding cases
 week_within =
     64 by (λ v t ok h xs. (WithinSpec.Concrete (record { amount = v; unit = TimeUnit.Weeks }), spanned shapes 64 v t h [] xs)) &
     end
 
-intervals : Each (Built shapes temporal_words sort.interval) 48 4
+intervals : Each (Built shapes temporal_grammar sort.interval) 48 4
 unfolding cases
 intervals =
     48 by (λ v t ok h xs. (record { amount = v; unit = TimeUnit.Seconds }, spanned shapes 48 v t h [] xs)) &
@@ -233,25 +233,25 @@ intervals =
     51 by (λ v t ok h xs. (record { amount = v; unit = TimeUnit.Days }, spanned shapes 51 v t h [] xs)) &
     end
 
-weeks : Each (Built shapes temporal_words sort.interval) 64 1
+weeks : Each (Built shapes temporal_grammar sort.interval) 64 1
 unfolding cases
 weeks =
     64 by (λ v t ok h xs. (record { amount = v; unit = TimeUnit.Weeks }, spanned shapes 64 v t h [] xs)) &
     end
 
-operators : Each (Built shapes temporal_words sort.operator) 53 1
+operators : Each (Built shapes temporal_grammar sort.operator) 53 1
 unfolding cases
 operators =
     53 by (λ v t ok h xs. let o = cmp v ok in (o.0, valued_as 53 v _ t o.1 h (joined_all shapes ([]) xs))) &
     end
 
-calls : Each (Built shapes temporal_words sort.call) 54 1
+calls : Each (Built shapes temporal_grammar sort.call) 54 1
 unfolding cases
 calls =
     54 by (λ v t ok h xs. (Call.MacroCall v xs.0 xs.1.0, spanned shapes 54 v t h (sort.text ∷ sort.arguments ∷ []) xs)) &
     end
 
-arguments : Each (Built shapes temporal_words sort.argument) 55 3
+arguments : Each (Built shapes temporal_grammar sort.argument) 55 3
 unfolding cases
 arguments =
     55 by (λ v t ok h xs. (CallArg.ConditionArg xs.0, zeroed shapes 55 v t ok h (sort.condition ∷ []) xs)) &
@@ -259,14 +259,14 @@ arguments =
     57 by (λ v t ok h xs. (CallArg.WithinArg xs.0, zeroed shapes 57 v t ok h (sort.interval ∷ []) xs)) &
     end
 
-sigils : Each (Built shapes temporal_words sort.sigil) 58 2
+sigils : Each (Built shapes temporal_grammar sort.sigil) 58 2
 unfolding cases
 sigils =
     58 by (λ v t ok h xs. ((Sigil.Param, t), spelt shapes 58 v t h [] xs)) &
     59 by (λ v t ok h xs. ((Sigil.Binder, t), spelt shapes 59 v t h [] xs)) &
     end
 
-definitions : Each (Built shapes temporal_words sort.definition) 60 1
+definitions : Each (Built shapes temporal_grammar sort.definition) 60 1
 unfolding cases
 definitions =
     60 by (λ v t ok h xs. (
@@ -275,7 +275,7 @@ definitions =
     )) &
     end
 
-bodies : Each (Built shapes temporal_words sort.body) 61 3
+bodies : Each (Built shapes temporal_grammar sort.body) 61 3
 unfolding cases
 bodies =
     61 by (λ v t ok h xs. (MacroBody.Cedar, zeroed shapes 61 v t ok h [] xs)) &
@@ -283,19 +283,19 @@ bodies =
     63 by (λ v t ok h xs. (MacroBody.TemporalValue xs.0, zeroed shapes 63 v t ok h (sort.term ∷ []) xs)) &
     end
 
-field_of : Each (Built shapes temporal_words sort.field) 40 1
+field_of : Each (Built shapes temporal_grammar sort.field) 40 1
 unfolding cases
 field_of =
     40 by (λ v t ok h xs. ((t, xs.0), spelt shapes 40 v t h (sort.term ∷ []) xs)) &
     end
 
-param_of : Each (Built shapes temporal_words sort.parameter) 42 1
+param_of : Each (Built shapes temporal_grammar sort.parameter) 42 1
 unfolding cases
 param_of =
     42 by (λ v t ok h xs. (record { span = v; name = xs.0 }, spanned shapes 42 v t h (sort.text ∷ []) xs)) &
     end
 
-binder_of : Each (Built shapes temporal_words sort.binding) 43 3
+binder_of : Each (Built shapes temporal_grammar sort.binding) 43 3
 unfolding cases
 binder_of =
     43 by (λ v t ok h xs. (record { slot = BinderSlot.Name t; ty = xs.0 }, spelt shapes 43 v t h (sort.type ∷ []) xs)) &
@@ -303,44 +303,44 @@ binder_of =
     45 by (λ v t ok h xs. (record { slot = BinderSlot.BinderRef t; ty = xs.0 }, spelt shapes 45 v t h (sort.type ∷ []) xs)) &
     end
 
-text_list : Each (Built shapes temporal_words sort.texts) 41 1
+text_list : Each (Built shapes temporal_grammar sort.texts) 41 1
 unfolding cases
 text_list =
     41 by (λ v t ok h xs. let l = texts v xs in (l.list, counting shapes 41 v t l h)) &
     end
 
-field_list : Each (Built shapes temporal_words sort.fields) 41 1
+field_list : Each (Built shapes temporal_grammar sort.fields) 41 1
 unfolding cases
 field_list =
     41 by (λ v t ok h xs. let l = fields v xs in (l.list, counting shapes 41 v t l h)) &
     end
 
-binder_list : Each (Built shapes temporal_words sort.bindings) 41 1
+binder_list : Each (Built shapes temporal_grammar sort.bindings) 41 1
 unfolding cases
 binder_list =
     41 by (λ v t ok h xs. let l = binders v xs in (l.list, counting shapes 41 v t l h)) &
     end
 
-arg_list : Each (Built shapes temporal_words sort.arguments) 41 1
+arg_list : Each (Built shapes temporal_grammar sort.arguments) 41 1
 unfolding cases
 arg_list =
     41 by (λ v t ok h xs. let l = args v xs in (l.list, counting shapes 41 v t l h)) &
     end
 
-param_list : Each (Built shapes temporal_words sort.parameters) 41 1
+param_list : Each (Built shapes temporal_grammar sort.parameters) 41 1
 unfolding cases
 param_list =
     41 by (λ v t ok h xs. let l = params v xs in (l.list, counting shapes 41 v t l h)) &
     end
 
-def_list : Each (Built shapes temporal_words sort.definitions) 41 1
+def_list : Each (Built shapes temporal_grammar sort.definitions) 41 1
 unfolding cases
 def_list =
     41 by (λ v t ok h xs. let l = defs v xs in (l.list, counting shapes 41 v t l h)) &
     end
 
-pub all_cases : Cases shapes temporal_words
-unfolding temporal_words
+pub all_cases : Cases shapes temporal_grammar
+unfolding temporal_grammar
 all_cases =
     0 by (end, end) & 1 by (conditions, end) & 2 by (terms_of, end) & 3 by (aggregates, end) &
     4 by (text, end) & 5 by (span, end) & 6 by (slots, end) & 7 by (types, end) & 8 by (withins, week_within) &
@@ -353,4 +353,4 @@ all_cases =
 
 -- the trees of document 01
 abbrev pub temporal_trees : Language temporal
-temporal_trees = record { Tree = Typed shapes; spell = flat_at shapes; built = built shapes temporal_words all_cases }
+temporal_trees = record { Tree = Typed shapes; spell = flat_at shapes; built = built shapes temporal_grammar all_cases }

@@ -6,7 +6,7 @@ use Rattle.format.specs.Entry.{Entry, entry}
 use Rattle.format.specs.Stands.{part}
 use Rattle.format.specs.Tape.{from_le, is_text, text_width}
 use Rattle.grammar.specs.Waits.{head_of}
-use Rattle.grammar.specs.Words.{row_at, width_of}
+use Rattle.grammar.specs.Words.{Rules, row_at, width_of}
 use Rattle.tape.specs.Pick.{pick}
 use Rattle.tape.specs.declared.layout.Layout.{Layout}
 use Rattle.tape.specs.declared.layout.Place.{Place}
@@ -50,15 +50,15 @@ abbrev pub text_behind : (size text width : ℕ) → ℕ
 text_behind size text width = pick (leb width (size - text)) (text + width) size
 
 -- the same by a table's marks
-abbrev pub width_by : List ℕ → List ℕ → Layout → ℕ → ℕ
+abbrev pub width_by : Rules → List ℕ → Layout → ℕ → ℕ
 width_by g s l i = width_of (row_at g (code_at s l i)) (value_at s l i)
 
 -- the entry at a place of a sort
-abbrev pub head_at : List ℕ → List ℕ → Layout → ℕ → ℕ → Head
+abbrev pub head_at : Rules → List ℕ → Layout → ℕ → ℕ → Head
 head_at g s l sort i = head_of g sort (code_at s l i) (value_at s l i)
 
 -- the n entries that a slice has from entry `at` and text offset `txt` on, whatever they are
-abbrev pub entries_at : List ℕ → List ℕ → Layout → ℕ → ℕ → ℕ → List Entry
+abbrev pub entries_at : Rules → List ℕ → Layout → ℕ → ℕ → ℕ → List Entry
 entries_at g s l at txt zero = []
 entries_at g s l at txt (suc n) =
     record { code = code_at s l at; value = value_at s l at; text = part s (l.text + txt) (width_by g s l at) }

@@ -1,5 +1,6 @@
 // The acceptance of a tape.
 ghost use Rattle.std.specs.Prelude.{◌≡◌};
+ghost use Rattle.grammar.specs.Words.{rules};
 ghost use Rattle.tape.specs.Accept.{accept_by, accept_in, accept_named, accept_of, judged};
 
 use crate::header::{Fault, open};
@@ -7,6 +8,7 @@ use crate::layout::{Layout, Place, Tape};
 use crate::ors::fits_rewritten;
 use crate::scan::scan;
 use grammar::codes::table;
+use grammar::rules::Grammar;
 
 // The layout of a tape whose root is of a sort and which passes no largest figure of an input, nor once its Ors are rewritten, or the
 // refusal's number. The longest text of a name has 64 bytes.
@@ -20,13 +22,12 @@ pub fn accept(s: &[u8], sort: u64) -> Result<Layout, Fault>
 pub fn accept_named(longest: u64, s: &[u8], sort: u64) -> Result<Layout, Fault>
     ensures { result ≡ accept_named longest s.now sort }
 {
-    let grammar = table();
-    accept_by(&grammar, longest, s, sort)
+    accept_by(table(), longest, s, sort)
 }
 
 // The same by any table, with the longest text of a name.
-pub fn accept_by(grammar: &[u64], longest: u64, s: &[u8], sort: u64) -> Result<Layout, Fault>
-    ensures { result ≡ accept_by grammar.now longest s.now sort }
+pub fn accept_by(grammar: Grammar, longest: u64, s: &[u8], sort: u64) -> Result<Layout, Fault>
+    ensures { result ≡ accept_by (rules grammar.entry) longest s.now sort }
 {
     let l = open(s)?;
     accept_in(
@@ -40,8 +41,8 @@ pub fn accept_by(grammar: &[u64], longest: u64, s: &[u8], sort: u64) -> Result<L
     )
 }
 
-fn accept_in(grammar: &[u64], longest: u64, tape: &Tape, sort: u64) -> Result<Layout, Fault>
-    ensures { result ≡ accept_in grammar.now longest tape.now.bytes.now sort tape.now.layout }
+fn accept_in(grammar: Grammar, longest: u64, tape: &Tape, sort: u64) -> Result<Layout, Fault>
+    ensures { result ≡ accept_in (rules grammar.entry) longest tape.now.bytes.now sort tape.now.layout }
 {
     let found = scan(grammar, tape, Place { at: 0, text: 0 }, sort, longest);
     judge(tape, found)

@@ -1,5 +1,6 @@
 // Replays the list of the Rust's answers that stands in `stdin`, and says for each operation and number how many of its vectors
-// came out, the numbers, the counts and every byte of the buffers. README.md says how the list was made; differential/README.md has what its bytes are.
+// came out, the numbers, the counts and every byte of the buffers. README.md says how the list was made; differential/README.md has what
+// its bytes are.
 #![tactic(auto)]
 
 ghost use Rattle.std.specs.Prelude.{◌≤◌, IfOk, length};

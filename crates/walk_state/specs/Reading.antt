@@ -2,7 +2,9 @@
 -- Assumes nothing.
 use Rattle.messages.specs.declared.Refused.{Refused}
 use Rattle.std.specs.Prelude.{◌≡◌, ℕ, zero, suc, List, Option, Result, Ok, Err}
+use Rattle.grammar.specs.Grammar as grammar
 use Rattle.nodes.specs.Node.{on_value, on_place, expect_at}
+use Rattle.tape.specs.Scan.{skip_at}
 use Rattle.tape.specs.declared.layout.Layout.{Layout}
 use Rattle.tape.specs.declared.layout.Place.{Place}
 use Rattle.nodes.specs.declared.Refusal.{Refusal}
@@ -45,6 +47,11 @@ too_deep_in = refused_in 0 (WithoutMessage 3)
 -- the place behind what was skipped
 unfoldable pub passed_in : Option Place → Result Place Refused
 passed_in = on_place malformed_in Ok
+
+-- where the left side of a Since ends: where its walk came, or, if that was refused, where a skip comes
+unfoldable pub behind_in : List ℕ → Layout → Place → Result Place Refused → Result Place Refused
+behind_in s l left (Ok p) = Ok p
+behind_in s l left (Err r) = passed_in (skip_at s l left grammar.condition)
 
 -- past a field's name
 unfoldable pub past_name_in : List ℕ → Layout → Result Place Refused → Result Place Refused

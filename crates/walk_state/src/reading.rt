@@ -1,11 +1,24 @@
 // What the walks that only read have in common. Their answer is the place behind what was walked, or the first refusal.
 ghost use Rattle.std.specs.Prelude.{◌≡◌, Ok};
-ghost use Rattle.walk_state.specs.Reading.{past_name_in, Along};
+ghost use Rattle.walk_state.specs.Reading.{behind_in, past_name_in, Along};
 
 use grammar::code;
+use grammar::codes::CONDITION;
 use messages::Refused;
 use nodes::{Refusal, expect};
 use tape::layout::{Place, Tape};
+use tape::scan::skip;
+
+// Where the left side of a Since ends, which stands at `left`: where its walk came, or, if that was refused, where a skip comes.
+#[tactic(auto, unfolding(crate::specs::Reading::behind_in, crate::specs::Reading::passed_in, crate::specs::Reading::refused_in, nodes::specs::Node::span_of, nodes::specs::Node::refusal_of))]
+pub fn behind(tape: &Tape, left: Place, walked: &Result<Place, Refused>) -> Result<Place, Refused>
+    ensures { result ≡ behind_in tape.now.bytes.now tape.now.layout left walked.now }
+{
+    match walked {
+        Ok(p) => Ok(*p),
+        Err(_) => Ok(skip(tape, left, CONDITION).ok_or(Refusal::MALFORMED)?),
+    }
+}
 
 // The way past a field's name.
 #[tactic(auto, unfolding(crate::specs::Reading::past_name_in, crate::specs::Reading::refused_in, nodes::specs::Node::span_of))]

@@ -1,6 +1,8 @@
 -- The older tape of the entries at a layout: a turn of each loop, and what the writes make.
 -- Assumes nothing.
-use Rattle.std.proofs.Common.{◌≡◌, ℕ, zero, suc, ◌+◌, ◌-◌, ◌*◌, ◌%◌, ◌^◌, ◌<◌, ◌≤◌, Bool, true, false, not, ◌&&◌, ◌||◌, eqb, List, [], ◌∷◌, ◌++◌, length, sym, refl, ap, ◌∙◌, arith, length-append}
+use Rattle.std.proofs.Common.{◌≡◌, ℕ, zero, suc, ◌+◌, ◌-◌, ◌*◌, ◌%◌, ◌^◌, ◌<◌, ◌≤◌, Bool, true, false, not, ◌&&◌, ◌||◌, eqb, List, [], ◌∷◌, ◌++◌, length, sym, refl, ap, ◌∙◌, arith, length-append, get_or, drop}
+use Rattle.std.proofs.lemmas.List.{get_or-take, get_or-drop}
+use Rattle.std.specs.List.{list_all, range_with_len}
 use native.Mathlib.Nat.{mod-add-mod, add-mod}
 use lib.Seq.{sets}
 use Rattle.format.specs.Entry.{Entry, entry, le, codes_of, values_of}
@@ -8,11 +10,12 @@ use Rattle.format.specs.Older.{sevenfold, as_days, older_entry, older_entries, f
 use Rattle.format.specs.Signed.{is_signed64}
 use Rattle.format.specs.Stands.{part}
 use Rattle.format.proofs.Accepted.{length_codes}
+use Rattle.format.proofs.Stands.{length_part}
 use Rattle.format.proofs.Encodes.{length_le, length_values}
 use Rattle.format.proofs.Older.{older_length}
 use Rattle.buffer.specs.Buffer.{zeroed}
 use Rattle.buffer.proofs.Sets.{sets_append, sets_behind}
-use Rattle.tape.specs.Layouts.{code_at, value_at}
+use Rattle.tape.specs.Layouts.{Held, code_at, value_at}
 use Rattle.tape.specs.declared.layout.Layout.{Layout}
 use Rattle.weeks.specs.Heads.{heads_at, heads_in, older_heads, older_tape_in, filled}
 
@@ -51,10 +54,6 @@ module _ (s : List ℕ) (l : Layout) (i n : ℕ) where
   unfolding fits_older
   fits_turn h = rw (heads_step h) refl
 
-  pub fits_end : n ≤ i → fits_older (heads_at s l i (n - i)) ≡ true
-  unfolding fits_older
-  fits_end h = rw (heads_none h) refl
-
   -- one code more, and one value more
   pub codes_turn : (m : List ℕ) → i < n
       → sets (sets m (8 + i) ((older_entry (entry (code_at s l i) 0)).code ∷ [])) (8 + (i + 1)) (codes_of (older_entries rest))
@@ -87,6 +86,20 @@ length_heads : (s : List ℕ) (l : Layout) (i n : ℕ) → length (heads_at s l 
 unfolding heads_at
 length_heads s l i zero = refl
 length_heads s l i (suc n) = ap suc (length_heads s l (i + 1) n)
+
+-- the test of one entry, over the indices of n entries
+pub all_fine : (s : List ℕ) (l : Layout) (i n : ℕ) → list_all (λ (j : ℕ). fine s l j 0) (range_with_len i n) ≡ fits_older (heads_at s l i n)
+unfolding heads_at fits_older
+all_fine s l i zero = refl
+all_fine s l i (suc n) = ap (λ (b : Bool). fine s l i 0 && b) (all_fine s l (i + 1) n)
+
+-- the codes as a slice has them
+module _ (s : List ℕ) (l : Layout) where
+  pub codes_counted : Held s l → length (part s l.codes l.entries) ≡ l.entries
+  codes_counted h = length_part s l.codes l.entries h.codes_held
+
+  pub code_is : (i : ℕ) → i < l.entries → get_or (part s l.codes l.entries) i 0 ≡ code_at s l i
+  code_is i h = get_or-take l.entries (drop l.codes s) i 0 h ∙ get_or-drop l.codes s i 0
 
 module _ (s : List ℕ) (l : Layout) where
   abbrev pub codes : List ℕ

@@ -2,7 +2,7 @@
 // Every other entry stays, and the text as it is.
 #![tactic(auto)]
 
-ghost use Rattle.std.specs.Prelude.{◌≡◌, ◌+◌, not, ◌||◌, T, ◌==◌};
+ghost use Rattle.std.specs.Prelude.{◌≡◌, ◌+◌, not, ◌||◌, T, ◌==◌, is_some, IfSome};
 ghost use Rattle.std.proofs.lemmas.List.Edits.{sets};
 ghost use Rattle.format.specs.Entry.{entry, codes_of, values_of};
 ghost use Rattle.format.specs.Older.{sevenfold, older_entry, older_entries, fits_older};
@@ -15,32 +15,45 @@ use tape::held::HeldTape;
 use tape::layout::Tape;
 use tape::part::part_of;
 
+// A held tape whose amounts fit: seven times the amount of each interval in weeks has 64 bits.
+#[derive(Clone, Copy, Debug)]
+struct FittingTape<'a> {
+    held: HeldTape<'a>,
+    ghost fits: { T (fits_older (heads_in held.tape.bytes.now held.tape.layout)) },
+}
+
+impl<'a> FittingTape<'a> {
+    // The same tape, where it holds its layout and its amounts fit.
+    fn of(tape: &Tape<'a>) -> Option<FittingTape<'a>>
+        ensures exactly { is_some result ≡ fits_in tape.now.bytes.now tape.now.layout }
+        ensures same { IfSome result (λ f. f.held.tape ≡ tape.now) }
+    {
+        let held = tape.held()?;
+        if all_fit(&held) {
+            Some(FittingTape { held })
+        } else {
+            None
+        }
+    }
+}
+
 // Writes the older tape of the entries at a layout, and zeros behind it; nothing where an amount leaves the range, or where the slice does
 // not hold the layout, which acceptance rules out. Says whether it was written.
 pub fn write_older(tape: &Tape, res: &mut [u8]) -> bool
     ensures { (result ≡ fits_in tape.now.bytes.now tape.now.layout) × (res.new ≡ written_in tape.now.bytes.now tape.now.layout res.old) }
 {
-    let Some(held) = tape.held() else {
+    let Some(tape) = FittingTape::of(tape) else {
         return false;
     };
-    let fits = all_fit(&held);
-    if fits {
-        write_tape(&held, res);
-    }
-    fits
+    write_tape(&tape, res);
+    true
 }
 
 // Whether seven times the amount of each interval in weeks has 64 bits.
-#[tactic(auto, using(crate::proofs::Heads::fits_turn, crate::proofs::Heads::fits_end))]
 fn all_fit(held: &HeldTape) -> bool
     ensures { result ≡ fits_older (heads_in held.now.tape.bytes.now held.now.tape.layout) }
 {
-    for i in 0..held.entries() {
-        if !fits(held.code_at(i), held.value_at(i)) {
-            return false;
-        }
-    }
-    true
+    (0..held.entries()).all(|i| fits(held.code_at(i), held.value_at(i)))
 }
 
 // The amounts from -1,317,624,576,693,539,401 to 1,317,624,576,693,539,401 fit: the negative ones are, in 64 bits, those from
@@ -88,52 +101,46 @@ fn older_value(code: u8, value: u64) -> u64
     }
 }
 
-#[tactic(auto, using(crate::proofs::Heads::codes_turn, crate::proofs::Heads::codes_end))]
+#[tactic(auto, using(crate::proofs::Heads::codes_turn, crate::proofs::Heads::codes_end, crate::proofs::Heads::code_is, crate::proofs::Heads::codes_counted))]
 fn write_codes(held: &HeldTape, res: &mut [u8])
     ensures { res.new ≡ sets res.old 8 (codes_of (older_entries (heads_in held.now.tape.bytes.now held.now.tape.layout))) }
 {
-    for i in 0..held.entries() {
-        let code = older_code(held.code_at(i));
-        write(res, 8 + i, &[code]);
+    for (i, &code) in held.codes().iter().enumerate() {
+        write(res, 8 + i, &[older_code(code)]);
     }
 }
 
+// The code and the value of an entry stand in two sections, so an index is what they share.
 #[tactic(auto, using(crate::proofs::Heads::values_turn, crate::proofs::Heads::values_end, crate::proofs::Heads::fits_turn))]
-fn write_values(held: &HeldTape, res: &mut [u8])
-    requires { T (fits_older (heads_in held.now.tape.bytes.now held.now.tape.layout)) }
-    ensures { res.new ≡ sets res.old (8 + held.now.tape.layout.entries) (values_of (older_entries (heads_in held.now.tape.bytes.now held.now.tape.layout))) }
+fn write_values(tape: &FittingTape, res: &mut [u8])
+    ensures { res.new ≡ sets res.old (8 + tape.now.held.tape.layout.entries) (values_of (older_entries (heads_in tape.now.held.tape.bytes.now tape.now.held.tape.layout))) }
 {
-    let n = held.entries();
+    let n = tape.held.entries();
     for i in 0..n {
-        let value = older_value(held.code_at(i), held.value_at(i));
+        let value = older_value(tape.held.code_at(i), tape.held.value_at(i));
         write(res, 8 + n + 8 * i, &value_bytes(value));
     }
 }
 
 // Writes all that is in front of the text.
 #[tactic(auto, using(crate::proofs::Heads::heads_written))]
-fn write_heads(held: &HeldTape, res: &mut [u8])
-    requires { T (fits_older (heads_in held.now.tape.bytes.now held.now.tape.layout)) }
-    ensures { res.new ≡ sets res.old 0 (older_heads held.now.tape.bytes.now held.now.tape.layout) }
+fn write_heads(tape: &FittingTape, res: &mut [u8])
+    ensures { res.new ≡ sets res.old 0 (older_heads tape.now.held.tape.bytes.now tape.now.held.tape.layout) }
 {
-    write_size(res, 0, held.entries());
-    write_size(res, 4, held.tape.layout.size);
-    write_codes(held, res);
-    write_values(held, res);
+    write_size(res, 0, tape.held.entries());
+    write_size(res, 4, tape.held.tape.layout.size);
+    write_codes(&tape.held, res);
+    write_values(tape, res);
 }
 
 #[tactic(auto, using(crate::proofs::Heads::tape_written))]
-fn write_tape(held: &HeldTape, res: &mut [u8])
-    requires { T (fits_older (heads_in held.now.tape.bytes.now held.now.tape.layout)) }
-    ensures { res.new ≡ filled res.old (older_tape_in held.now.tape.bytes.now held.now.tape.layout) }
+fn write_tape(tape: &FittingTape, res: &mut [u8])
+    ensures { res.new ≡ filled res.old (older_tape_in tape.now.held.tape.bytes.now tape.now.held.tape.layout) }
 {
-    let text = part_of(
-        held.tape.bytes,
-        held.tape.layout.text,
-        held.tape.layout.size,
-    );
-    let behind = 8 + 9 * held.tape.layout.entries;
-    write_heads(held, res);
+    let Tape { bytes, layout } = tape.held.tape;
+    let text = part_of(bytes, layout.text, layout.size);
+    let behind = 8 + 9 * layout.entries;
+    write_heads(tape, res);
     write(res, behind, text);
     buffer::zero_from(res, behind + text.len());
 }

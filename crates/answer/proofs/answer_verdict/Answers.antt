@@ -1,4 +1,5 @@
--- `answer::answer_verdict` meets its contract.
+-- `answer::answer_verdict` meets its contract. `AnswersVerdict` is a function type, whose lemma `search` does not match, or
+-- stops at a limit.
 use Rattle.answer.proofs.Ends.{message_alone_lem, passes_answered, refused_answered}
 use Rattle.answer.proofs.answer_verdict.Goals as goal
 

@@ -1,4 +1,4 @@
--- `answer::answer_walk` meets its contract.
+-- `answer::answer_walk` meets its contract. `AnswersOutcome` is a function type, whose lemma `search` does not match, or stops at a limit.
 use mathlib.Core.Path.{ap}
 use Rattle.std.proofs.Common.{Result}
 use Rattle.messages.specs.declared.Refused.{Refused}

@@ -1,4 +1,4 @@
--- `answer::refuse` meets its contract.
+-- `answer::refuse` meets its contract. `AnswersRefusal` is a function type, whose lemma `search` does not match, or stops at a limit.
 use Rattle.answer.proofs.Ends.{refusal_answered}
 use Rattle.answer.proofs.refuse.Goals as goal
 

@@ -1,3 +1,4 @@
+-- `check_body::check` meets its contract. `AnswersVerdict` is a function type, whose lemma `search` does not match, or stops at a limit.
 use Rattle.check_body.proofs.Operation.{checked_definition}
 use Rattle.check_body.proofs.check.Goals as goal
 

@@ -1,3 +1,4 @@
+-- `check_library::answer_list` meets its contract. The promise is a function type (`AnswersList`), whose law `search` does not match.
 use Rattle.check_library.proofs.Operation.{list_answered, list_refused}
 use Rattle.check_library.proofs.answer_list.Goals as goal
 

@@ -1,3 +1,5 @@
+-- `check_library::check_at` meets its contract. What `answer_verdict` promises is a function type (`AnswersVerdict`), whose law `search`
+-- does not match.
 use Rattle.check_library.proofs.Operation.{checked}
 use Rattle.check_library.proofs.check_at.Goals as goal
 

@@ -1,3 +1,4 @@
+-- `check_library::check_library` meets its contract: with the fitting law cited `search` stops at one of its limits.
 use native.Mathlib.Omega.{arith}
 use Rattle.check_library.proofs.Operation.{library_listed}
 use Rattle.check_library.proofs.check_library.Goals as goal

@@ -1,4 +1,5 @@
--- `expand_counts::count_entries` meets its contract. The invariant: the entries that are left make of the counts so far what all make of those given.
+-- `expand_counts::count_entries` meets its contract. The invariant: the entries that are left make of the counts so far what all make of
+-- those given.
 use Prim.Native.Nat.{◌-◌, ◌*◌, ◌≤◌}
 use mathlib.Core.Path.{◌≡◌}
 use lib.ListN.{length}

@@ -1,4 +1,5 @@
 -- `expand_stray::check_concrete_binders` meets its contract: what is walked along the list is a binder's check.
+-- `Along` wants the definition that the calls agree with, a function, which `search` does not build.
 use Rattle.std.proofs.Common.{rules}
 use Rattle.walk_state.specs.Reading.{Along}
 use Rattle.expand_stray.specs.Concrete.{concrete_binder_in, concrete_binders_in}

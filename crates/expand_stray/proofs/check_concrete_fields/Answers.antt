@@ -1,4 +1,5 @@
 -- `expand_stray::check_concrete_fields` meets its contract: what is walked along the list is a field's check.
+-- `Along` wants the definition that the calls agree with, a function, which `search` does not build.
 use Rattle.std.proofs.Common.{rules}
 use Rattle.walk_state.specs.Reading.{Along}
 use Rattle.expand_stray.specs.Concrete.{concrete_field_in, concrete_fields_in}

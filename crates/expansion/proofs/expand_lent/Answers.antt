@@ -1,4 +1,4 @@
--- `expansion::expand_lent` meets its contract.
+-- `expansion::expand_lent` meets its contract: `search` stops at one of its limits with the fitting law cited.
 use mathlib.Core.Path.{refl, sym, ◌∙◌}
 use Rattle.definition.specs.Answers.{number_alone}
 use Rattle.format.proofs.Accepted.{bytes_all}

@@ -1,4 +1,4 @@
--- `older::older` meets its contract where a tape has an Or.
+-- `older::older` meets its contract where a tape has an Or: with the fitting law cited `search` stops at one of its limits.
 use mathlib.Core.Path.{sym, ◌∙◌}
 use Rattle.format.proofs.Accepted.{bytes_all}
 use Rattle.older.proofs.Operation.{given_or, sort_told}

@@ -1,4 +1,4 @@
--- `profile::profile` meets its contract: a tape without an Or, one with an Or, and one that is refused.
+-- `profile::profile` meets its contract: `search` stops at one of its limits with the fitting law cited.
 use mathlib.Core.Path.{sym, ◌∙◌}
 use Rattle.format.proofs.Accepted.{bytes_all}
 use Rattle.profile.proofs.Operation.{refused, given, given_or}

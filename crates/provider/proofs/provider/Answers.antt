@@ -1,4 +1,5 @@
--- `provider::provider` meets its contract: a tape that is accepted, and one that is refused.
+-- `provider::provider` meets its contract: a tape that is accepted, and one that is refused. The laws want a function as their argument,
+-- that each byte is one, which `search` does not build.
 use mathlib.Core.Path.{sym, ◌∙◌}
 use Rattle.format.proofs.Accepted.{bytes_all}
 use Rattle.answer.proofs.Ends.{no_buffers_lem}

@@ -1,4 +1,4 @@
--- `registry::answer_names` meets its contract.
+-- `registry::answer_names` meets its contract. The law wants a function as its argument, which `search` does not build.
 use mathlib.Core.Path.{sym, ◌∙◌}
 use Rattle.format.proofs.Accepted.{bytes_all}
 use Rattle.registry.proofs.Answers.{built, refused}

@@ -1,4 +1,4 @@
--- `registry::index_from` meets its contract: what is written where the entries end, and where a text runs past the end.
+-- `registry::index_from` meets its contract: `search` stops at one of its limits with the fitting law cited.
 use mathlib.Core.Path.{refl}
 use Rattle.registry.proofs.Steps.{index_long, index_done}
 use Rattle.registry.proofs.index_from.Goals as goal

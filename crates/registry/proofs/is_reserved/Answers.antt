@@ -1,4 +1,4 @@
--- `registry::is_reserved` meets its contract.
+-- `registry::is_reserved` meets its contract: one equation of four lists, at whose length `search` stops.
 use Rattle.definition.specs.Text.{open_text}
 use Rattle.definition.specs.Registry.{reserved_names}
 use Rattle.registry.proofs.Steps.{in_four_lists}

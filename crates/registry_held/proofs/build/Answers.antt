@@ -1,4 +1,4 @@
--- `registry_held::build` meets its contract.
+-- `registry_held::build` meets its contract. The law wants a function as its argument, which `search` does not build.
 use Rattle.format.proofs.Accepted.{bytes_all}
 use Rattle.registry_held.proofs.Registries.{builds}
 use Rattle.registry_held.proofs.build.Goals as goal

@@ -1,4 +1,4 @@
--- `registry_held::find` meets its contract.
+-- `registry_held::find` meets its contract. The law wants a function as its argument, which `search` does not build.
 use native.Mathlib.Omega.{arith}
 use Rattle.format.proofs.Accepted.{bytes_all}
 use Rattle.registry_held.proofs.Registries.{nothing_found, name_found}

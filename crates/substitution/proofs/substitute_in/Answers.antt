@@ -1,4 +1,5 @@
--- `substitution::substitute_in` meets its contract: the three buffers that the answer is written to are as long as those that were lent.
+-- `substitution::substitute_in` meets its contract: the three buffers that the answer is written to are as long as those that were
+-- lent, which `search` finds for each by itself but not for the law that wants all of it.
 use Rattle.std.proofs.Common.{rules}
 use Rattle.substitution.proofs.Steps.{ends}
 use Rattle.substitution.proofs.substitute_in.Goals as goal

@@ -1,4 +1,5 @@
--- `check_parts::Declared::check_binders` meets its contract: what is walked along the list is a binder's check.
+-- `check_parts::Declared::check_binders` meets its contract: what is walked along the list is a binder's check. `Along`
+-- wants the definition that the calls agree with, a function, which `search` does not build.
 use Rattle.std.proofs.Common.{rules}
 use Rattle.walk_state.specs.Reading.{Along}
 use Rattle.check_parts.specs.Names.{binder_in, binders_in}

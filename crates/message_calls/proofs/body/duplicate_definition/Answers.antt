@@ -1,4 +1,5 @@
--- `message_calls::body::duplicate_definition` meets its contract. Words are long lists, at whose depth `grind` stops, so the pieces are joined here.
+-- `message_calls::body::duplicate_definition` meets its contract. Words are long lists, at whose depth `grind` stops, so the pieces
+-- are joined here.
 use mathlib.Core.Path.{refl}
 use Rattle.definition.specs.Messages.{open_messages}
 use Rattle.definition.specs.Outcome.{span_start}

@@ -1,4 +1,5 @@
--- `neukolja::sheet_steps::neukolja_sheet_next` meets its contract.
+-- `neukolja::sheet_steps::neukolja_sheet_next` meets its contract. The laws want functions as arguments, the answer and the progress that
+-- are the definition's, which `search` does not build.
 use mathlib.Core.Path.{ap, ◌∙◌}
 use Rattle.sheet.specs.Sheet.{sheet_next_answer, sheet_next_progress}
 use Rattle.neukolja.specs.Words.{progress_in}

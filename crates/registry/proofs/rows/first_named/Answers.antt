@@ -1,4 +1,4 @@
--- `registry::rows::first_named` meets its contract: a definition that is found.
+-- `registry::rows::first_named` meets its contract: `search` stops at one of its limits with the fitting law cited.
 use Rattle.registry.proofs.Steps.{get_found}
 use Rattle.registry.proofs.rows.first_named.Goals as goal
 

@@ -1,4 +1,5 @@
--- `registry::rows::Index::check_names` meets its contract. The invariant: the names of the definitions that are left, after those before them, are judged as all are.
+-- `registry::rows::Index::check_names` meets its contract. The invariant: the names of the definitions that are left, after those before
+-- them, are judged as all are.
 use mathlib.Core.Path.{◌≡◌}
 use lib.ListN.{take, drop}
 use Rattle.registry.specs.Places.{build_from_at, build_at}

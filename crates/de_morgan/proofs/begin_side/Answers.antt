@@ -1,0 +1,16 @@
+-- `de_morgan::begin_side` meets its contract. The side on top and those below it stand in no conclusion, so that `search` does not find
+-- them.
+use Rattle.std.proofs.Common.{sym}
+use Rattle.de_morgan.proofs.Sides.{none_waits, other_waits, side_begins}
+use Rattle.de_morgan.proofs.begin_side.Goals as goal
+
+pub returns-in_default : goal.returns-in_default
+returns-in_default c = none_waits _ _ _ _ _ (sym (rw (c.as_slice.ensures.value, c.in_default.is) at c.last.ensures.value))
+
+pub returns-then-side-at : goal.returns-then-side-at
+returns-then-side-at c = other_waits _ _ _ _ _ (sym (rw c.as_slice.ensures.value at c.in-Some.ensures.value)) c.if-side-at.true
+
+pub returns : goal.returns
+returns c =
+    side_begins _ _ _ _ _ (sym (rw c.as_slice.ensures.value at c.in-Some.ensures.value)) c.if-side-at.false c.pop.ensures.value c.pop.ensures.items
+    c.put_head.ensures
