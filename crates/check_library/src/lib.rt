@@ -6,7 +6,7 @@ ghost use Rattle.std.specs.Prelude.{◌≡◌, [], length};
 ghost use Rattle.format.specs.Entry.{le};
 ghost use Rattle.definition.specs.Library.{library_answer, check_at_answer};
 ghost use Rattle.buffer.specs.Message.{Puts, so_far};
-ghost use Rattle.answer.specs.Matches.{answer_with, ended};
+ghost use Rattle.answer.specs.Matches.{answer_with};
 ghost use Rattle.check_library.specs.Rows.{verdict_at, row_of, put_in, put_from, checked_in, listing, listed_in, AnswersList};
 
 use answer::{Answer, answer_verdict, number_alone, refuse, refuse_number, refuse_without_work};

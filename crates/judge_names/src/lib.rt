@@ -4,7 +4,7 @@
 // again: 1,024 entries at the most, so half a million pairs.
 #![tactic(auto)]
 
-ghost use Rattle.std.specs.Prelude.{◌≡◌, true, ◌&&◌, [], ◌≤◌, ◌<◌, eqb, is_some, IfSome};
+ghost use Rattle.std.specs.Prelude.{◌≡◌, true, ◌&&◌, [], ◌≤◌, ◌<◌, is_some, IfSome};
 ghost use Rattle.definition.specs.Check.{contains};
 ghost use Rattle.definition.specs.Text.{eq_text};
 ghost use Rattle.tape.specs.Layouts.{holds, code_at, value_at, width_at, text_behind};

@@ -4,7 +4,7 @@
 
 ghost use Rattle.std.specs.Prelude.{[], ◌≡◌, ◌&&◌, leb, length, replicate};
 ghost use Rattle.definition.specs.Merge.{merge_answer};
-ghost use Rattle.answer.specs.Matches.{answer_with, ended};
+ghost use Rattle.answer.specs.Matches.{answer_with};
 ghost use Rattle.de_morgan.specs.Rewritten.{rewritten_in, rewritten_layout};
 ghost use Rattle.merge.specs.Ends.{AnswersMerging, EndsMerge};
 

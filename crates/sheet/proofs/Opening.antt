@@ -13,7 +13,7 @@ use Rattle.format.specs.Tape.{Bytes}
 use Rattle.definition.specs.Answers.{Answer, answer, message_alone, number_alone, message_answer, registry_answer}
 use Rattle.definition.proofs.Kept.{registry_bounded}
 use Rattle.answer.specs.Matches.{ended}
-use Rattle.std.specs.Prelude.{Result, Ok, Err}
+use Rattle.std.specs.Prelude.{Ok, Err}
 use Rattle.sheet.specs.declared.SheetFault.{SheetFault}
 use Rattle.sheet.specs.declared.SheetFault.TheVariants.{TooLarge, Malformed}
 use Rattle.sheet.specs.Sheet.{size_of, filled_by, over, filled, checked, fault_number, checked_number, sheet_number, sheet_open_answer, conditions_left, sheet_open_progress}
