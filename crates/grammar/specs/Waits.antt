@@ -1,8 +1,10 @@
 -- What one entry does to a scan: whether it may stand at a place of a sort, what it brings, and whether it passes a largest figure.
 -- Assumes nothing.
-use Rattle.std.specs.Prelude.{ℕ, ◌+◌, min, List, [], ◌∷◌, Bool, not, ◌&&◌, ◌||◌, leb, ltb, eqb}
+use Rattle.std.specs.Prelude.{ℕ, ◌+◌, min, List, [], ◌∷◌, Bool, not, ◌&&◌, ◌||◌, leb, ltb, eqb, Option, Some, None}
+use Rattle.std.specs.declared.num.NonZeroU64.{NonZeroU64}
+use Rattle.std.specs.Int.NonZero.{non_zero_u64_get}
 use Rattle.grammar.specs.Grammar.{Follows, once, each, sorts_of}
-use Rattle.grammar.specs.Words.{Rules, sort_at, row_at, in_sort, is_few, values_of, nesting_of, calls_of, follows_in, follows_of, width_of, longest_of}
+use Rattle.grammar.specs.Words.{Rules, sort_at, row_at, in_sort, nesting_of, calls_of, follows_in, follows_of, width_of, longest_of}
 use Rattle.grammar.specs.declared.entry.Head.{Head}
 
 -- a sort that is waited for, below `nesting` nodes and `calls` calls
@@ -43,7 +45,7 @@ counted (each s) v = v
 abbrev pub accepts : ℕ → ℕ → Head → Bool
 accepts left room e =
     in_sort e.sort e.code
-    && (valued (values_of e.row) e.value && (leb (counted (follows_of e.follows) e.value) left && leb e.text room))
+    && (valued e.row.values e.value && (leb (counted (follows_of e.follows) e.value) left && leb e.text room))
 
 -- the number of calls around what follows an entry; 4 stands for every number from 4 on
 abbrev pub enclosed : ℕ → Head → ℕ
@@ -52,6 +54,11 @@ enclosed n e = min (n + calls_of e.row) 4
 -- the figures of an input are asked for, and not those of a result: the longest text of a name is not 0
 abbrev pub is_limited : ℕ → Bool
 is_limited longest = not (eqb longest 0)
+
+-- the longest text of a name, and 0 where the figures of an input are not asked for
+abbrev pub longest_in : Option NonZeroU64 → ℕ
+longest_in None = 0
+longest_in (Some n) = non_zero_u64_get n
 
 -- how much an entry counts in nesting
 abbrev pub nests_by : ℕ → Head → ℕ
@@ -71,7 +78,7 @@ abbrev pub exceeds : ℕ → Wait → Head → Bool
 exceeds longest w e =
     passes 64 w.nesting (nests_by longest e)
     || (passes 4 w.calls (calls_of e.row)
-    || (is_limited longest && (is_few e.sort && ltb 16 e.value)
+    || (is_limited longest && (e.sort.few && ltb 16 e.value)
     || is_limited longest && ltb (longest_of longest e.row) e.text))
 
 -- what is waited for below an entry

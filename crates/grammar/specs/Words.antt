@@ -123,15 +123,6 @@ abbrev pub in_sort : SortRule → ℕ → Bool
 in_sort sort code =
     leb sort.low code && (ltb code sort.end || leb sort.low_too code && ltb code sort.end_too)
 
-abbrev pub is_few : SortRule → Bool
-is_few sort = sort.few
-
-abbrev pub own_of : SortRule → ℕ
-own_of sort = sort.own
-
-abbrev pub values_of : CodeRule → ℕ
-values_of row = row.values
-
 -- what may be its text
 abbrev pub has_text : TextRule → Bool
 has_text NoText = false
@@ -175,7 +166,7 @@ calls_of row = pick row.is_call 1 0
 
 -- the word of what follows a code at a place of a sort: the sort's own, or else the code's
 abbrev pub follows_in : SortRule → CodeRule → ℕ
-follows_in sort row = pick (eqb (own_of sort) 0) row.follows (own_of sort)
+follows_in sort row = pick (eqb sort.own 0) row.follows sort.own
 
 -- the sorts of a word in base 64, the first lowest, and the last of them `more` times more; k digits at the most
 abbrev pub sorts_in : ℕ → ℕ → ℕ → List ℕ

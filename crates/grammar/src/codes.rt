@@ -1,5 +1,5 @@
 // Document 01's table "Codes on the tape"; specs/Grammar.antt has it with names, specs/Words.antt says how it is written.
-ghost use Rattle.std.specs.Prelude.{◌≡◌, ◌<◌};
+ghost use Rattle.std.specs.Prelude.{◌≡◌};
 ghost use Rattle.grammar.specs.Words.{follows_in, in_sort, is_each, rules, temporal_grammar};
 
 use crate::rules::TextRule::{Long, Name, Short};
@@ -7,7 +7,7 @@ use crate::rules::{
     CodeRule, Grammar, LEAF, LIST, NO_SORT, NODE, NodeRule, SortRule, leaf, list, node, sort,
 };
 
-// The sorts.
+// The sorts. They are numbers, since another table has other sorts under the same ones, and any number may be asked for.
 pub const CONDITION: u64 = 1;
 
 pub const TERM: u64 = 2;

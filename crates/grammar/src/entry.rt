@@ -1,14 +1,15 @@
 // What one entry does to a scan.
-ghost use Rattle.std.specs.Prelude.{◌≡◌, ◌&&◌, ◌||◌, ◌++◌, ◌+◌, ◌≤◌, ◌<◌, min, not, eqb, ltb, length, drop};
+ghost use Rattle.std.specs.Prelude.{◌≡◌, ◌&&◌, ◌||◌, ◌++◌, ◌+◌, ◌≤◌, ◌<◌, min, not, eqb, ltb, drop};
 ghost use Rattle.arrayvec.specs.ArrayVec.{array_vec_len};
 ghost use Rattle.grammar.specs.Stack.{stack_of, wait_of, waits_by};
-ghost use Rattle.grammar.specs.Waits.{accepts, below, counted, exceeds, is_limited, passes, valued};
-ghost use Rattle.grammar.specs.Words.{calls_of, follows_of, is_few, longest_of, nesting_of, width_of};
+ghost use Rattle.grammar.specs.Waits.{accepts, below, counted, exceeds, is_limited, longest_in, passes, valued};
+ghost use Rattle.grammar.specs.Words.{calls_of, follows_of, longest_of, nesting_of, width_of};
 
 use crate::codes::{in_sort, is_each};
 use crate::rules::{CodeRule, NodeRule, SortRule, TextRule};
 use crate::stack::{Cell, drop_first};
 use arrayvec::ArrayVec;
+use std::num::NonZeroU64;
 
 // An entry's code and value and the length of its text, with what a table says of it at a place of a sort: of the sort and of the code, and
 // the word of what follows.
@@ -22,7 +23,7 @@ pub struct Head {
     pub follows: u32,
 }
 
-// How many bytes of text an entry takes.
+// How many bytes of text an entry takes, as `kind::text_width` has it by the code: here by its rule, which a scan has at hand.
 #[tactic(auto, unfolding(format::specs::Tape::text_width))]
 pub fn width_of(row: CodeRule, value: u64) -> u64
     ensures { result ≡ width_of row value }
@@ -79,43 +80,44 @@ fn passes(most: u8, n: u8, more: u8) -> bool
 
 // Whether an entry is a count of more than 16 in a short list.
 fn too_many(e: Head) -> bool
-    ensures { result ≡ (is_few e.sort && ltb 16 e.value) }
+    ensures { result ≡ (e.sort.few && ltb 16 e.value) }
 {
     e.sort.few & (16 < e.value)
 }
 
-// Whether a text is longer than an input's may be; `longest`, the longest of a name, is 0 where that is not asked.
-fn exceeds_text(longest: u64, e: Head) -> bool
-    ensures { result ≡ (is_limited longest && ltb (longest_of longest e.row) e.text) }
+// Whether a text is longer than an input's may be; `longest`, the longest of a name, is None where that is not asked.
+fn exceeds_text(longest: Option<NonZeroU64>, e: Head) -> bool
+    ensures { result ≡ (is_limited (longest_in longest) && ltb (longest_of (longest_in longest) e.row) e.text) }
 {
-    e.text != 0 && longest != 0 && longest_of(longest, e.row) < e.text
+    match longest {
+        Some(names) => e.text != 0 && longest_of(names.get(), e.row) < e.text,
+        None => false,
+    }
 }
 
 // Whether it passes a figure of an input.
-fn exceeds_input(longest: u64, e: Head) -> bool
-    ensures { result ≡ (is_limited longest && (is_few e.sort && ltb 16 e.value) || is_limited longest && ltb (longest_of longest e.row) e.text) }
+fn exceeds_input(longest: Option<NonZeroU64>, e: Head) -> bool
+    ensures { result ≡ (is_limited (longest_in longest) && (e.sort.few && ltb 16 e.value) || is_limited (longest_in longest) && ltb (longest_of (longest_in longest) e.row) e.text) }
 {
-    longest != 0 && (too_many(e) || exceeds_text(longest, e))
+    longest.is_some() && (too_many(e) || exceeds_text(longest, e))
 }
 
 // Whether an entry is neither a call nor a short list's.
 fn is_usual(e: Head) -> bool
-    ensures { result ≡ (eqb (calls_of e.row) 0 && not (is_few e.sort)) }
+    ensures { result ≡ (eqb (calls_of e.row) 0 && not e.sort.few) }
 {
     !e.row.is_call & !e.sort.few
 }
 
 // How much an entry counts in nesting. `longest` is as in `exceeds`.
-fn nesting_of(longest: u64, row: CodeRule) -> u8
-    ensures { result ≡ nesting_of (is_limited longest) row }
+fn nesting_of(longest: Option<NonZeroU64>, row: CodeRule) -> u8
+    ensures { result ≡ nesting_of (is_limited (longest_in longest)) row }
 {
-    match row.nodes {
-        NodeRule::NoNode => 0,
-        NodeRule::One => 1,
-        NodeRule::Rewritten if longest == 0 => 1,
-        NodeRule::Rewritten => 3,
-        NodeRule::TwoInInput if longest == 0 => 0,
-        NodeRule::TwoInInput => 2,
+    match (row.nodes, longest) {
+        (NodeRule::NoNode, _) | (NodeRule::TwoInInput, None) => 0,
+        (NodeRule::One, _) | (NodeRule::Rewritten, None) => 1,
+        (NodeRule::TwoInInput, Some(_)) => 2,
+        (NodeRule::Rewritten, Some(_)) => 3,
     }
 }
 
@@ -126,10 +128,10 @@ fn calls_of(row: CodeRule) -> u8
     u8::from(row.is_call)
 }
 
-// Whether an entry that a cell waited for passes a largest figure. `longest` is the longest text of a name, or 0 where the figures of an
-// input are not asked for.
-pub fn exceeds(longest: u64, c: Cell, e: Head) -> bool
-    ensures { result ≡ exceeds longest (wait_of c) e }
+// Whether an entry that a cell waited for passes a largest figure. `longest` is the longest text of a name, or None where the figures of
+// an input are not asked for.
+pub fn exceeds(longest: Option<NonZeroU64>, c: Cell, e: Head) -> bool
+    ensures { result ≡ exceeds (longest_in longest) (wait_of c) e }
 {
     let row = e.row;
     let nesting = nesting_of(longest, row);
@@ -150,9 +152,9 @@ fn raised(n: u8, more: u8, most: u8) -> u8
 }
 
 // The cell of what follows an entry that a cell waited for. `longest` is as in `exceeds`.
-fn brought(c: Cell, e: Head, longest: u64) -> Option<Cell>
+fn brought(c: Cell, e: Head, longest: Option<NonZeroU64>) -> Option<Cell>
     requires { counted (follows_of e.follows) e.value ≤ 65536 }
-    ensures { waits_by result ≡ below longest (wait_of c) e }
+    ensures { waits_by result ≡ below (longest_in longest) (wait_of c) e }
 {
     let row = e.row;
     let nesting = raised(c.nesting, nesting_of(longest, row), 64);
@@ -163,9 +165,14 @@ fn brought(c: Cell, e: Head, longest: u64) -> Option<Cell>
 // Takes an entry that the cell on top, `c`, waited for first: its sort is no more to come, and what follows it comes next. Most entries
 // bring nothing.
 #[tactic(auto, using(crate::proofs::Cells::pushed), unfolding(crate::specs::Words::follows_of))]
-pub fn advance<const N: usize>(stack: &mut ArrayVec<Cell, N>, c: Cell, e: Head, longest: u64)
+pub fn advance<const N: usize>(
+    stack: &mut ArrayVec<Cell, N>,
+    c: Cell,
+    e: Head,
+    longest: Option<NonZeroU64>,
+)
     requires { (0 < array_vec_len stack.old) × (array_vec_len stack.old < N) × (counted (follows_of e.follows) e.value ≤ 65536) }
-    ensures stack { stack_of stack.new.items ≡ below longest (wait_of c) e ++ drop 1 (stack_of stack.old.items) }
+    ensures stack { stack_of stack.new.items ≡ below (longest_in longest) (wait_of c) e ++ drop 1 (stack_of stack.old.items) }
     ensures least { array_vec_len stack.old ≤ array_vec_len stack.new + 1 }
     ensures most { array_vec_len stack.new ≤ array_vec_len stack.old + 1 }
 {

@@ -14,7 +14,8 @@ enum ValueKind {
     Plain,
 }
 
-// Document 01: "An entry with text has its length as value". One match with ranges is a form that it names; 70 to 76 are a provider's.
+// Document 01: "An entry with text has its length as value". One match with ranges is a form that it names. 70 to 72, 74 and 76
+// are a provider's.
 #[tactic(auto, unfolding(format::specs::Tape::is_text, format::specs::Macro::is_code, crate::specs::Kind::is_span, crate::specs::Kind::is_count, crate::specs::Kind::kind_of))]
 fn kind_of(code: u8) -> ValueKind
     ensures { result ≡ kind_of code }

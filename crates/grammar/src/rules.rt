@@ -3,9 +3,11 @@
 ghost use Rattle.std.specs.Prelude.{◌≡◌};
 ghost use Rattle.grammar.specs.Words.{row_at, rules, sort_at};
 
+use crate::code;
+
 // A sort: the codes that may stand at a place of it, from `low` to the one before `end`, and those of a second such range, which lies above
-// the first (0 and 0: there is none); the word of what follows there, where the sort says it and not the code (0: the code says it); and whether it is a list of at
-// most 16.
+// the first (0 and 0: there is none); the word of what follows there, where the sort says it and not the code (0: the code says it); and
+// whether it is a list of at most 16.
 #[derive(Clone, Copy, Debug, PartialEq, Eq)]
 pub struct SortRule {
     pub low: u8,
@@ -66,8 +68,8 @@ pub(crate) const NO_SORT: SortRule = SortRule {
 
 // A list, 41 and its items.
 pub(crate) const LIST: SortRule = SortRule {
-    low: 41,
-    end: 42,
+    low: code::LIST,
+    end: code::LIST + 1,
     ..NO_SORT
 };
 

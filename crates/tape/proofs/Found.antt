@@ -13,7 +13,7 @@ use Rattle.format.specs.Tape.{is_text, text_width}
 use Rattle.format.proofs.All.{all_nil, all_cons}
 use Rattle.format.proofs.Encodes.{WellTexted}
 use Rattle.format.proofs.Tests.{and_left, and_right, and_both, from_true, is_true}
-use Rattle.grammar.specs.Words.{in_sort, values_of, sort_at, row_at}
+use Rattle.grammar.specs.Words.{in_sort, sort_at, row_at}
 use Rattle.grammar.specs.Waits.{Wait, waits, head_of, valued, accepts, deeper, enclosed, exceeds, below}
 use Rattle.grammar.specs.declared.entry.Head.{Head}
 use Rattle.grammar.proofs.Marks.{Table}
@@ -137,7 +137,7 @@ module _ {t : Table} (trees : Language t) where
             let n = deeper longest c.nesting head in
             let k = enclosed c.calls head in
             grown (is_true (and_both i _ (and_left i _ u)
-            (and_left (valued (values_of (row_at t.grammar e.code)) e.value) _ (and_right i _ u))))
+            (and_left (valued (row_at t.grammar e.code).values e.value) _ (and_right i _ u))))
             (subst (λ (l : List ℕ). Found es l (at + 1) p) (sorts_append n k ss st) (next h))
 
 -- a scan that used up all entries took their text, and each text is one that it takes

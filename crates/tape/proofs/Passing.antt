@@ -15,7 +15,7 @@ use Rattle.format.proofs.All.{All, all_nil, all_cons, all_head, all_tail, all_ap
 use Rattle.format.proofs.Encodes.{WellTexted}
 use Rattle.format.proofs.Stands.{text_append}
 use Rattle.grammar.specs.Grammar.{Follows, once, each, sorts_of}
-use Rattle.grammar.specs.Words.{Rules, sort_at, row_at, in_sort, is_few, values_of, calls_of, follows_in, follows_of, longest_of}
+use Rattle.grammar.specs.Words.{Rules, sort_at, row_at, in_sort, calls_of, follows_in, follows_of, longest_of}
 use Rattle.grammar.specs.Waits.{Wait, wait, waits, head_of, valued, counted, accepts, is_limited, nests_by, deeper, enclosed, passes, exceeds}
 use Rattle.grammar.specs.declared.entry.Head.{Head}
 use Rattle.grammar.proofs.Marks.{Table, temporal, fewer}
@@ -90,7 +90,7 @@ pub record Keeps (g : Rules) (longest n k nodes calls : ℕ) (listed : Bool) (es
 
 -- no short list of more than 16
 abbrev pub listed_at : Rules → ℕ → ℕ → Bool
-listed_at g s v = not (is_few (sort_at g s) && ltb 16 v)
+listed_at g s v = not ((sort_at g s).few && ltb 16 v)
 
 asked_true : (limited : Bool) → T (asked limited true)
 asked_true true = tt
@@ -209,7 +209,7 @@ not_ltb a b = same_test (λ t. le→leb b a (nltb→le a b t))
 
 -- a code and a value that may stand at a place of a sort
 abbrev pub allowed : Rules → ℕ → Entry → Bool
-allowed g s e = in_sort (sort_at g s) e.code && valued (values_of (row_at g e.code)) e.value
+allowed g s e = in_sort (sort_at g s) e.code && valued (row_at g e.code).values e.value
 
 -- the sorts of what follows
 abbrev pub sorts_below : Rules → ℕ → Entry → List ℕ
@@ -235,7 +235,7 @@ module _ (t : Table) (s : ℕ) (e : Entry) (ok : allowed t.grammar s e ≡ true)
       let u = from_true ok in
       let a = in_sort head.sort e.code in
       is_true (and_both a _ (and_left a _ u)
-      (and_both (valued (values_of head.row) e.value) _ (and_right a _ u)
+      (and_both (valued head.row.values e.value) _ (and_right a _ u)
       (and_both (leb (counted (follows_of head.follows) e.value) left) _ (le→leb _ _ h₁) (le→leb _ _ (rw width at h₂)))))
 
   -- the entry's own figures
@@ -255,7 +255,7 @@ module _ (t : Table) (s : ℕ) (e : Entry) (ok : allowed t.grammar s e ≡ true)
         let z = is_limited longest in
         let long = z && ltb (longest_of longest head.row) head.text in
         let short = short_entry z longest es in
-        let many = is_few head.sort && ltb 16 e.value in
+        let many = head.sort.few && ltb 16 e.value in
         let listed = asked_and z (not many) x ∙ ap (λ (b : Bool). b && asked z x) (asked_not z many) in
         let node = t.nodes_are z e.code in
         let call = t.calls_are e.code in

@@ -15,7 +15,7 @@ use Rattle.format.specs.Flat.{flat_bool}
 use Rattle.format.specs.Tape.{is_text, text_width}
 use Rattle.format.proofs.Tests.{and_left, and_right, and_both, from_true, is_true}
 use Rattle.grammar.specs.Grammar.{sorts_of}
-use Rattle.grammar.specs.Words.{Rules, no_codes, sort_at, row_at, in_sort, values_of, follows_in, follows_of}
+use Rattle.grammar.specs.Words.{Rules, no_codes, sort_at, row_at, in_sort, follows_in, follows_of}
 use Rattle.grammar.specs.Waits.{valued}
 use Rattle.grammar.specs.declared.rules.SortRule.{SortRule}
 use Rattle.tape.proofs.Found.{TreesOf, spell_all}
@@ -158,7 +158,7 @@ module _ (shapes : List Shape) where
     -- a tree of that sort that starts with the code k
     abbrev pub Built : ℕ → ℕ → Type 0
     Built n k =
-        (v : ℕ) (t : Text) → valued (values_of (row_at grammar k)) v ≡ true → length t ≡ text_width (is_text k) v → (xs : All (sorts_at n k v))
+        (v : ℕ) (t : Text) → valued (row_at grammar k).values v ≡ true → length t ≡ text_width (is_text k) v → (xs : All (sorts_at n k v))
         → (x : (shape_at n).Tree) × ((shape_at n).spell x ≡ coded k v t ∷ flat_all (sorts_at n k v) xs)
 
     -- a case for each code of the two ranges of the sort with the number n

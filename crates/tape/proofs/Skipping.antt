@@ -13,7 +13,7 @@ use lib.ListN.{length}
 use Rattle.format.specs.Entry.{Entry}
 use Rattle.format.proofs.Tests.{and_left, and_right, from_true, is_true}
 use Rattle.grammar.specs.Counts.{count_words, step_in}
-use Rattle.grammar.specs.Words.{temporal_grammar, in_sort, values_of, follows_of}
+use Rattle.grammar.specs.Words.{temporal_grammar, in_sort, follows_of}
 use Rattle.grammar.specs.Waits.{Wait, waits, head_of, valued, counted, accepts, exceeds, below}
 use Rattle.grammar.specs.declared.entry.Head.{Head}
 use Rattle.grammar.proofs.Counted.{Counts, step_counts, none_waits, some_waits, width_counts}
@@ -78,7 +78,7 @@ module _ (s : List ℕ) (l : Layout) where
           let a = and_left (accepts (length es) (l.size - text) first) _ (from_true e) in
           let i = in_sort first.sort code in
           let q = and_right i _ a in
-          let r = and_right (valued (values_of first.row) value) _ q in
+          let r = and_right (valued first.row.values value) _ q in
           let more = counted (follows_of first.follows) value in
           let fits = leb→le more (length es) (and_left (leb more (length es)) _ r) in
           let wide = leb→le first.text (l.size - text) (and_right (leb more (length es)) _ r) in

@@ -13,7 +13,7 @@ use lib.Dec.{leb, eqb, leb→le}
 use Rattle.format.specs.Entry.{Text, Entry}
 use Rattle.format.specs.Stands.{part}
 use Rattle.format.specs.Utf8.{follow, between, well_formed}
-use Rattle.grammar.specs.Words.{Rules, in_sort, values_of, follows_of}
+use Rattle.grammar.specs.Words.{Rules, in_sort, follows_of}
 use Rattle.tape.specs.Layouts.{head_at, entries_at, width_by}
 use Rattle.tape.specs.Pick.{pick}
 use Rattle.grammar.specs.Waits.{Wait, wait, valued, counted, accepts, below, exceeds}
@@ -35,7 +35,7 @@ length_entries g s l at txt (suc n) = ap suc (length_entries g s l (at + 1) (txt
 pub let_in : (left room : ℕ) (e : Head) → accepts left room e ≡ true
     → (counted (follows_of e.follows) e.value ≤ left) × (e.text ≤ room)
 let_in left room e h =
-    let t = and_right (valued (values_of e.row) e.value) _ (and_right (in_sort e.sort e.code) _ (from_true h)) in
+    let t = and_right (valued e.row.values e.value) _ (and_right (in_sort e.sort e.code) _ (from_true h)) in
     let few = leb (counted (follows_of e.follows) e.value) left in
     (leb→le _ _ (and_left few _ t), leb→le _ _ (and_right few _ t))
 

@@ -9,6 +9,7 @@ use crate::ors::fits_rewritten;
 use crate::scan::scan;
 use grammar::codes::table;
 use grammar::rules::Grammar;
+use std::num::NonZeroU64;
 
 // The layout of a tape whose root is of a sort and which passes no largest figure of an input, nor once its Ors are rewritten, or the
 // refusal's number. The longest text of a name has 64 bytes.
@@ -44,7 +45,8 @@ pub fn accept_by(grammar: Grammar, longest: u64, s: &[u8], sort: u64) -> Result<
 fn accept_in(grammar: Grammar, longest: u64, tape: &Tape, sort: u64) -> Result<Layout, Fault>
     ensures { result ≡ accept_in (rules grammar.entry) longest tape.now.bytes.now sort tape.now.layout }
 {
-    let found = scan(grammar, tape, Place { at: 0, text: 0 }, sort, longest);
+    let names = NonZeroU64::new(longest);
+    let found = scan(grammar, tape, Place { at: 0, text: 0 }, sort, names);
     judge(tape, found)
 }
 

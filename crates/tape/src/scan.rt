@@ -2,6 +2,7 @@
 ghost use Rattle.std.specs.Prelude.{◌≡◌, ◌+◌, ◌*◌, ◌≤◌, ◌<◌, ◌&&◌, leb, ltb, length};
 ghost use Rattle.format.specs.Stands.{part};
 ghost use Rattle.arrayvec.specs.ArrayVec.{array_vec_len};
+ghost use Rattle.grammar.specs.Waits.{longest_in};
 ghost use Rattle.grammar.specs.Words.{rules};
 ghost use Rattle.tape.specs.Layouts.{head_at};
 ghost use Rattle.tape.specs.Scan.{scan_at, scan_from, skip_at, starts, text_passes, too_deep, too_deep_in};
@@ -18,6 +19,7 @@ use grammar::count::{counts, due_of, has_pairs};
 use grammar::entry::{Head, accepts, advance, exceeds, width_of};
 use grammar::rules::{Grammar, row_at, sort_at};
 use grammar::stack::Cell;
+use std::num::NonZeroU64;
 
 // The entry at a place, where one of the sort `wanted` is due.
 fn head_at(grammar: Grammar, tape: &Tape, wanted: u64, at: usize) -> Head
@@ -43,10 +45,10 @@ fn head_at(grammar: Grammar, tape: &Tape, wanted: u64, at: usize) -> Head
 // entry is asked, and most have none, so that this is part of the loop.
 #[tactic(auto, using(crate::proofs::Turns::nothing_passes))]
 #[inline(always)]
-fn text_passes(tape: &Tape, text: usize, len: usize, longest: u64) -> bool
-    ensures { result ≡ text_passes longest (part tape.now.bytes.now (tape.now.layout.text + text) len) }
+fn text_passes(tape: &Tape, text: usize, len: usize, longest: Option<NonZeroU64>) -> bool
+    ensures { result ≡ text_passes (longest_in longest) (part tape.now.bytes.now (tape.now.layout.text + text) len) }
 {
-    len == 0 || longest == 0 || well_formed(tape.bytes, behind(tape.layout.text, text), len)
+    len == 0 || longest.is_none() || well_formed(tape.bytes, behind(tape.layout.text, text), len)
 }
 
 // Takes the entry at a place, for which `cell`, the top of the stack, waits first: takes that sort off, and puts there what the entry
@@ -59,10 +61,10 @@ fn take_entry<const N: usize>(
     cell: Cell,
     at: usize,
     text: usize,
-    longest: u64,
+    longest: Option<NonZeroU64>,
 ) -> Option<(usize, bool)>
     requires { CanTurn cell stack.old.items tape.now.bytes.now tape.now.layout at text × (array_vec_len stack.old < N) }
-    ensures turned { Turned (rules grammar.entry) longest tape.now.bytes.now tape.now.layout stack.old.items at text result stack.new.items }
+    ensures turned { Turned (rules grammar.entry) (longest_in longest) tape.now.bytes.now tape.now.layout stack.old.items at text result stack.new.items }
     ensures most { array_vec_len stack.new ≤ array_vec_len stack.old + 1 }
 {
     let e = head_at(grammar, tape, u64::from(cell.word % 64), at);
@@ -77,17 +79,20 @@ fn take_entry<const N: usize>(
     Some((text + e.text as usize, over))
 }
 
-// The scan with a stack of N cells. An entry brings one cell more at the most, so it has a cell more than the tape has entries.
+// The scan with a stack of N cells. An entry brings one cell more at the most, so it has a cell more than the tape has entries. It is a
+// function by itself, since as a part of its caller it has fewer registers (2 in 100 instructions more); and table, tape and `longest` are
+// no struct with methods, with which it took 5 to 8 in 100 more.
 #[tactic(auto, using(crate::proofs::Turns::went_on, crate::proofs::Turns::stopped, crate::proofs::Turns::run_out, crate::proofs::Turns::ended, crate::proofs::Turns::first_waits))]
+#[inline(never)]
 fn scan_with<const N: usize>(
     grammar: Grammar,
     tape: &Tape,
     from: Place,
     sort: u64,
-    longest: u64,
+    longest: Option<NonZeroU64>,
 ) -> Option<(Place, bool)>
     requires { Starts tape.now.bytes.now tape.now.layout from sort × (tape.now.layout.entries < N) × (N ≤ 1025) }
-    ensures { result ≡ scan_from (rules grammar.entry) tape.now.bytes.now tape.now.layout from sort longest }
+    ensures { result ≡ scan_from (rules grammar.entry) tape.now.bytes.now tape.now.layout from sort (longest_in longest) }
 {
     let mut stack: ArrayVec<Cell, N> = ArrayVec::new();
     stack.push(Cell::of(sort));
@@ -112,10 +117,10 @@ fn scan_held(
     tape: &Tape,
     from: Place,
     sort: u64,
-    longest: u64,
+    longest: Option<NonZeroU64>,
 ) -> Option<(Place, bool)>
     requires { Starts tape.now.bytes.now tape.now.layout from sort }
-    ensures { result ≡ scan_from (rules grammar.entry) tape.now.bytes.now tape.now.layout from sort longest }
+    ensures { result ≡ scan_from (rules grammar.entry) tape.now.bytes.now tape.now.layout from sort (longest_in longest) }
 {
     if tape.layout.entries < 128 {
         scan_with::<128>(grammar, tape, from, sort, longest)
@@ -140,16 +145,16 @@ fn starts(tape: &Tape, from: Place, sort: u64) -> bool
     tape.holds() & is_place(&tape.layout, from, sort)
 }
 
-// The entries of a sort from a place on, by any table. `longest` is the longest text of a name, or 0 where the figures of an
+// The entries of a sort from a place on, by any table. `longest` is the longest text of a name, or None where the figures of an
 // input are not asked for, nor its texts tested.
 pub fn scan(
     grammar: Grammar,
     tape: &Tape,
     from: Place,
     sort: u64,
-    longest: u64,
+    longest: Option<NonZeroU64>,
 ) -> Option<(Place, bool)>
-    ensures { result ≡ scan_at (rules grammar.entry) tape.now.bytes.now tape.now.layout from sort longest }
+    ensures { result ≡ scan_at (rules grammar.entry) tape.now.bytes.now tape.now.layout from sort (longest_in longest) }
 {
     if starts(tape, from, sort) {
         scan_held(grammar, tape, from, sort, longest)
@@ -163,7 +168,7 @@ pub fn scan(
 pub fn too_deep_in(grammar: Grammar, tape: &Tape, sort: u64) -> bool
     ensures { result ≡ too_deep_in (rules grammar.entry) tape.now.bytes.now tape.now.layout sort }
 {
-    let found = scan(grammar, tape, Place { at: 0, text: 0 }, sort, 0);
+    let found = scan(grammar, tape, Place { at: 0, text: 0 }, sort, None);
     matches!(found, Some((_, true)))
 }
 
