@@ -10,11 +10,12 @@ use native.Mathlib.Numerals.{add-one}
 use lib.Dec.{eqb}
 use lib.ListN.{length, drop, get_or, drop_of_length-le, length-take, length-map}
 use lib.Seq.{drop-cons}
+use Rattle.definition.specs.Size.{size}
 use Rattle.format.specs.Entry.{Entry, entry}
-use Rattle.format.specs.Limits.{weigh}
+use Rattle.format.specs.Limits.{is_node, weigh}
 use Rattle.format.specs.Stands.{part}
 use Rattle.format.proofs.Stands.{part_cons}
-use Rattle.tape.specs.Flat.{sum_of, weight_of}
+use Rattle.tape.specs.Flat.{Passing, branch_weight, is_branch, sum_of, weight_of}
 use Rattle.tape.specs.Layouts.{code_at, holds, width_by, entries_at}
 use Rattle.tape.specs.Pick.{pick}
 use Rattle.tape.specs.declared.layout.Layout.{Layout}
@@ -29,6 +30,26 @@ module _ (f : ℕ → ℕ) (codes : List ℕ) (i : ℕ) where
 
   pub sum_end : length codes ≤ i → sum_of f (drop i codes) ≡ 0
   sum_end h = rw (drop_of_length-le codes h) refl
+
+-- the nodes among entries
+size_sum : (cs : List ℕ) → size (coded cs) ≡ sum_of (λ (c : ℕ). weigh (is_node c)) cs
+unfolding size
+size_sum [] = refl
+size_sum (c ∷ cs) = ap (λ (n : ℕ). weigh (is_node c) + n) (size_sum cs)
+
+-- what is counted by a test, where the test is known
+module _ (cs : List ℕ) (P : ℕ → Bool → Type 0) (n : ℕ) (p : Passing cs P n) where
+  pub passing_code : (code : ℕ) → ((c : ℕ) (b : Bool) → P c b → b ≡ eqb c code) → n ≡ sum_of (weight_of code) cs
+  unfolding Passing
+  passing_code code h = p (λ (c : ℕ). eqb c code) h
+
+  pub passing_branch : ((c : ℕ) (b : Bool) → P c b → b ≡ is_branch c) → n ≡ sum_of branch_weight cs
+  unfolding Passing
+  passing_branch h = p is_branch h
+
+  pub passing_nodes : ((c : ℕ) (b : Bool) → P c b → b ≡ is_node c) → n ≡ size (coded cs)
+  unfolding Passing
+  passing_nodes h = p is_node h ∙ sym (size_sum cs)
 
 -- a code among entries
 pub tally_sum : (code : ℕ) (codes : List ℕ) → tally code (coded codes) ≡ sum_of (weight_of code) codes

@@ -1,6 +1,6 @@
 -- Trees so small that they cannot be too deep: at most four calls, and either 64 entries or few nodes that may have others in them.
 -- Assumes nothing.
-use Rattle.std.specs.Prelude.{ℕ, ◌+◌, ◌*◌, List, [], ◌∷◌, Bool, ◌&&◌, ◌||◌, leb, eqb}
+use Rattle.std.specs.Prelude.{◌≡◌, ℕ, ◌+◌, ◌*◌, List, [], ◌∷◌, Bool, ◌&&◌, ◌||◌, leb, eqb}
 use Rattle.format.specs.Limits.{weigh}
 use Rattle.format.specs.Stands.{part}
 use Rattle.tape.specs.Layouts.{holds}
@@ -10,6 +10,10 @@ use Rattle.tape.specs.declared.layout.Layout.{Layout}
 abbrev pub sum_of : (ℕ → ℕ) → List ℕ → ℕ
 sum_of f [] = 0
 sum_of f (c ∷ cs) = f c + sum_of f cs
+
+-- How many codes pass a test: what the sum is of whichever test all its answers agree with.
+unfoldable pub Passing : List ℕ → (ℕ → Bool → Type 0) → ℕ → Type 0
+Passing cs P n = (f : ℕ → Bool) → ((c : ℕ) (b : Bool) → P c b → b ≡ f c) → n ≡ sum_of (λ (c : ℕ). weigh (f c)) cs
 
 -- of those of a layout
 abbrev pub sum_in : (ℕ → ℕ) → List ℕ → Layout → ℕ

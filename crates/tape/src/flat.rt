@@ -2,6 +2,7 @@
 ghost use Rattle.std.specs.Prelude.{◌≡◌, ◌≤◌, length};
 ghost use Rattle.tape.specs.Flat.{branch_weight, is_branch, is_flat, is_small, sum_of};
 
+use crate::count::count;
 use crate::held::HeldTape;
 use crate::layout::Tape;
 use crate::ors::count_in;
@@ -35,16 +36,10 @@ fn is_branch(code: u8) -> bool
 }
 
 // How many codes are such.
-#[tactic(auto, unfolding(format::specs::Limits::weigh))]
+#[tactic(auto, using(crate::proofs::Counting::passing_branch))]
 fn branches_in(codes: &[u8]) -> usize
     requires { length codes.now ≤ 1024 }
     ensures { result ≡ sum_of branch_weight codes.now }
 {
-    let mut n: u16 = 0;
-    for &code in codes {
-        if is_branch(code) {
-            n += 1;
-        }
-    }
-    n as usize
+    count(codes, is_branch)
 }

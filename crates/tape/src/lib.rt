@@ -3,6 +3,7 @@
 #![tactic(auto)]
 
 pub mod accept;
+pub mod count;
 pub mod ends;
 pub mod flat;
 pub mod header;

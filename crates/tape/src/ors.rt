@@ -3,23 +3,18 @@ ghost use Rattle.std.specs.Prelude.{◌≡◌, ◌≤◌, leb, length};
 ghost use Rattle.tape.specs.Flat.{sum_of, weight_of};
 ghost use Rattle.tape.specs.Ors.{ors_from, ors_in, rewritten_count};
 
+use crate::count::count;
 use crate::held::HeldTape;
 use crate::layout::Tape;
 use grammar::code;
 
-// How many codes are this one. They are a layout's, so that a short number counts them, and many are compared at once.
-#[tactic(auto, unfolding(format::specs::Limits::weigh))]
+// How many codes are this one.
+#[tactic(auto, using(crate::proofs::Counting::passing_code))]
 pub fn count_in(codes: &[u8], code: u8) -> usize
     requires { length codes.now ≤ 1024 }
     ensures { result ≡ sum_of (weight_of code) codes.now }
 {
-    let mut n: u16 = 0;
-    for &c in codes {
-        if c == code {
-            n += 1;
-        }
-    }
-    n as usize
+    count(codes, |c| c == code)
 }
 
 #[tactic(auto, using(crate::proofs::Counting::ors_held))]
