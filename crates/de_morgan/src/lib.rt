@@ -112,6 +112,7 @@ fn put_all(out: &mut [u8], n: usize, held: &HeldTape)
     let mut sides = ArrayVec::<Side, 256>::new();
     let mut text = 0;
     let mut put = 0;
+    // an index, which is what code, value and text of an entry share
     for at in 0..tape.layout.entries {
         put = begin_side(out, n, put, &mut sides, at);
         let code = held.code_at(at);

@@ -6,6 +6,8 @@ ghost use Rattle.grammar.specs.Counts.{due_of, has_pairs, count_words, step_in, 
 use crate::codes::{ARGUMENTS, BINDING, DEFINITIONS, FIELD, TEXTS};
 
 // The value is a text's length; it says how many subtrees follow; it is a list's; the items of the next list are one subtree each.
+// Marks in a number and no enum: a skip has most entries by one test, whether the number is below 8. By an enum, in the best of four forms,
+// it takes 25 in 100 more instructions over 1,024 entries (20.1 each, where these take 16.1), and 6 over the registry of the cases.
 const TEXT: u8 = 8;
 
 const EACH: u8 = 16;

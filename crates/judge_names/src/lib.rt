@@ -98,6 +98,7 @@ fn has_name(held: &HeldTape, name: &[u8]) -> bool
     ensures { result ≡ contains (names_in (entries_in held.now.tape.bytes.now held.now.tape.layout)) name.now }
 {
     let mut text = 0;
+    // an index, which is what code, value and text of an entry share
     for at in 0..held.entries() {
         if is_named(held, at, text, name) {
             return true;
@@ -173,6 +174,7 @@ fn agrees_before(sides: &Sides, end: usize, names: &Pair) -> bool
     let mut a = 0;
     let mut b = 0;
     let mut agrees = true;
+    // an index, which is what code, value and text of an entry share
     for at in 0..end {
         agrees &= agrees_with(sides, at, a, b, names);
         a = behind(&sides.left, at, a);
@@ -217,6 +219,7 @@ fn same_entries(protected: &HeldProtected, sides: &Sides) -> bool
 {
     let mut a = 0;
     let mut b = 0;
+    // an index, which is what code, value and text of an entry share
     for at in 0..sides.left.entries() {
         if !agrees_at(protected, sides, at, a, b) {
             return false;

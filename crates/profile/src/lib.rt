@@ -82,6 +82,7 @@ fn profile_entries(held: &HeldTape) -> Answer
     let mut nodes: u64 = 0;
     let mut around = ArrayVec::<Around, 17>::new();
     around.push(Around::default());
+    // an index, which is what code, value and text of an entry share
     for at in 0..held.entries() {
         let e = head_at(held, at);
         if let Some(rule) = broken_by(nodes, e) {

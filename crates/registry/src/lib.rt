@@ -83,6 +83,7 @@ fn index_from(held: &HeldTape, rows: &mut [Row]) -> usize
     let size = tape.layout.size;
     let mut n: usize = 0;
     let mut text: usize = 0;
+    // an index, which is what code, value and text of an entry share
     for at in 0..tape.layout.entries {
         let place = Place { at, text };
         let code = held.code_at(at);

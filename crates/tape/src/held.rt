@@ -42,6 +42,7 @@ impl<'a> HeldTape<'a> {
         &self.tape.bytes[start..start + self.tape.layout.entries]
     }
 
+    // Code, value and text of an entry stand in three sections of the slice, so a loop over entries counts an index, which they share.
     pub fn code_at(&self, at: usize) -> u8
         requires { at < self.now.tape.layout.entries }
         ensures { result ≡ code_at self.now.tape.bytes.now self.now.tape.layout at }

@@ -43,7 +43,7 @@ fn ends_between(t: &[u8]) -> bool
 }
 
 // The state behind a byte. 0 is between characters, 1 to 3 await so many bytes from 80 to BF, 4 to 7 stand behind a first byte that
-// allows fewer second ones, and 8 is ill-formed.
+// allows fewer second ones, and 8 is ill-formed. They stay numbers, as in the definition, whose table of moves has a row for each.
 #[tactic(auto, using(crate::proofs::Moves::rows), unfolding(format::specs::Utf8::moves))]
 fn next(state: u8, b: u8) -> u8
     ensures { result ≡ next state b }
