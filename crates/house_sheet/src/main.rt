@@ -2,39 +2,20 @@
 // number, start, end and charged, as `cases` does; a refused registry or sheet is one line with place 0.
 #![tactic(auto)]
 
-ghost use Rattle.std.specs.Prelude.{◌≤◌, IfOk, length};
-
 use answer::Answer;
 use buffer::read_size;
 use sheet::Progress;
 use std::io;
 use std::io::Read;
 
-// Room for the longest input, 4 + 12,296 + 65,536 bytes, and one more: a sheet that fills it is too long.
-fn room() -> [u8; 77837] {
-    [0; 77837]
-}
+// The longest input, 4 + 12,296 + 65,536 bytes, and one more: a sheet that fills it is too long.
+const ROOM: usize = 77837;
 
 fn main(rt: HostRuntime) -> io::Result<()> {
-    let mut input = room();
-    let n = read_full(&mut rt.stdin(), &mut input)?;
+    let mut input = [0; ROOM];
+    let n = io::copy(&mut rt.stdin().take(ROOM as u64), &mut &mut input[..])?;
+    let n = (n as usize).min(ROOM);
     run(&rt, &input[..n])
-}
-
-// Reads until the buffer is full or the input ends, and says how many bytes came.
-// std's whole reads say too little where a read fails, so the loop is over `read`.
-fn read_full(reader: &mut impl Read, buffer: &mut [u8]) -> io::Result<usize>
-    ensures { IfOk result (λ n. n ≤ length buffer.new) }
-{
-    let mut done = 0;
-    while done < buffer.len() {
-        let n = reader.read(&mut buffer[done..])?;
-        if n == 0 {
-            break;
-        }
-        done += n;
-    }
-    Ok(done)
 }
 
 // An input that ends before its registry does, or a registry longer than any tape, is 2.

@@ -1,82 +1,91 @@
 // A list of vectors, one behind the other. A length has four bytes; what is shorter than its length ends with the list.
 use crate::operation::Kind;
 use buffer::{read_size, read_value};
-use tape::part::part_of;
 
-// Where a vector's parts begin, and its kind: None where the list names no operation or number that there is.
+// How long the buffers are that a vector's operation is lent.
 #[derive(Clone, Copy, Debug, PartialEq, Eq)]
-pub struct Vector {
+pub struct Sizes {
+    pub result: usize,
+    pub work: usize,
+    pub message: usize,
+}
+
+// A vector's parts, and its kind: None where the list names no operation or number that there is.
+#[derive(Clone, Copy, Debug, PartialEq, Eq)]
+pub struct Vector<'a> {
     pub kind: Option<Kind>,
     pub limit: u32,
     pub file: u16,
     pub index: u32,
-    pub first: usize,
-    pub second: usize,
-    pub third: usize,
-    pub sizes: usize,
-    pub numbers: usize,
-    pub result: usize,
-    pub message: usize,
-    pub given: usize,
-    pub counted: usize,
-    pub next: usize,
+    pub first: &'a [u8],
+    pub second: &'a [u8],
+    pub third: &'a [u8],
+    pub sizes: Sizes,
+    pub numbers: &'a [u8],
+    pub result: &'a [u8],
+    pub message: &'a [u8],
+    pub given: &'a [u8],
+    pub counted: &'a [u8],
 }
 
-// The place behind `n` bytes.
-fn past(s: &[u8], at: usize, n: usize) -> usize {
-    at.saturating_add(n).min(s.len())
+// What is still to be read of a list.
+#[derive(Clone, Copy, Debug, PartialEq, Eq)]
+pub struct List<'a> {
+    rest: &'a [u8],
 }
 
-// The first vector's place.
-pub fn start(s: &[u8]) -> usize {
-    past(s, 0, 12)
-}
+impl<'a> List<'a> {
+    // The list in a slice, and how many vectors it says that it has.
+    pub fn open(s: &'a [u8]) -> (List<'a>, u32) {
+        let mut list = List { rest: s };
+        let vectors = read_size(list.take(12), 8);
+        (list, vectors)
+    }
 
-// The place behind bytes that have their length before them.
-fn past_bytes(s: &[u8], at: usize) -> usize {
-    let n = read_size(s, at) as usize;
-    past(s, past(s, at, 4), n)
-}
+    // The next bytes, so many of them.
+    fn take(&mut self, n: usize) -> &'a [u8] {
+        let (front, rest) = self.rest.split_at(n.min(self.rest.len()));
+        self.rest = rest;
+        front
+    }
 
-// Bytes that have their length before them.
-pub fn bytes(s: &[u8], at: usize) -> &[u8] {
-    let n = read_size(s, at) as usize;
-    part_of(s, past(s, at, 4), n)
-}
+    // Bytes that have their length before them.
+    fn bytes(&mut self) -> &'a [u8] {
+        let n = read_size(self.take(4), 0);
+        self.take(n as usize)
+    }
 
-// The place behind a tape that only some operations have.
-fn past_tape(s: &[u8], at: usize, has: bool) -> usize {
-    if has { past_bytes(s, at) } else { at }
-}
+    // A tape that only some operations have.
+    fn tape_if(&mut self, has: bool) -> &'a [u8] {
+        if has { self.bytes() } else { &[] }
+    }
 
-pub fn read_vector(s: &[u8], at: usize) -> Vector {
-    let limit = read_size(s, past(s, at, 1));
-    let file = (read_size(s, past(s, at, 5)) % 65536) as u16;
-    let index = read_size(s, past(s, at, 7));
-    let tapes = read_size(s, past(s, at, 11)) % 256;
-    let first = past(s, at, 12);
-    let second = past_bytes(s, first);
-    let third = past_tape(s, second, 1 < tapes);
-    let sizes = past_tape(s, third, 2 < tapes);
-    let numbers = past(s, sizes, 12);
-    let result = past(s, numbers, 56);
-    let message = past_bytes(s, result);
-    let given = past_bytes(s, message);
-    let counted = past_bytes(s, given);
-    Vector {
-        kind: Kind::new(read_size(s, at) % 256, read_value(s, numbers)),
-        limit,
-        file,
-        index,
-        first,
-        second,
-        third,
-        sizes,
-        numbers,
-        result,
-        message,
-        given,
-        counted,
-        next: past_bytes(s, counted),
+    pub fn vector(&mut self) -> Vector<'a> {
+        let head = self.take(12);
+        let tapes = read_size(head, 11);
+        let first = self.bytes();
+        let second = self.tape_if(1 < tapes);
+        let third = self.tape_if(2 < tapes);
+        let sizes = self.take(12);
+        let numbers = self.take(56);
+        Vector {
+            kind: Kind::new((read_size(head, 0) % 256) as u8, read_value(numbers, 0)),
+            limit: read_size(head, 1),
+            file: (read_size(head, 5) % 65536) as u16,
+            index: read_size(head, 7),
+            first,
+            second,
+            third,
+            sizes: Sizes {
+                result: read_size(sizes, 0) as usize,
+                work: read_size(sizes, 4) as usize,
+                message: read_size(sizes, 8) as usize,
+            },
+            numbers,
+            result: self.bytes(),
+            message: self.bytes(),
+            given: self.bytes(),
+            counted: self.bytes(),
+        }
     }
 }

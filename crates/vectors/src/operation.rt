@@ -1,6 +1,8 @@
 // What a vector is run through, and how it is counted.
 ghost use Rattle.std.specs.Prelude.{◌<◌};
 
+use std::fmt;
+
 // The operations, each with its number in a list.
 #[derive(Clone, Copy, Debug, PartialEq, Eq)]
 pub enum Operation {
@@ -38,18 +40,27 @@ impl Operation {
         Operation::ArgumentToTerm,
         Operation::TermToArgument,
     ];
+}
 
-    // The operation of a number, if there is one.
-    pub fn from_number(number: u32) -> Option<Operation> {
+// A number that no operation has.
+#[derive(Clone, Copy, Debug, PartialEq, Eq)]
+pub struct UnknownOperation(pub u8);
+
+impl TryFrom<u8> for Operation {
+    type Error = UnknownOperation;
+
+    fn try_from(number: u8) -> Result<Operation, UnknownOperation> {
         Operation::ALL
             .iter()
             .copied()
-            .find(|operation| *operation as u32 == number)
+            .find(|operation| *operation as u8 == number)
+            .ok_or(UnknownOperation(number))
     }
+}
 
-    // As it is printed.
-    pub fn name(self) -> &'static str {
-        match self {
+impl fmt::Display for Operation {
+    fn fmt<W: fmt::Write>(&self, f: &mut fmt::Formatter<W>) -> fmt::Result {
+        f.write_str(match self {
             Operation::Check => "check",
             Operation::Registry => "registry",
             Operation::Substitute => "substitute",
@@ -64,7 +75,7 @@ impl Operation {
             Operation::Provider => "provider",
             Operation::ArgumentToTerm => "argument_to_term",
             Operation::TermToArgument => "term_to_argument",
-        }
+        })
     }
 }
 
@@ -78,8 +89,8 @@ pub struct Kind {
 
 impl Kind {
     // None where there is no such operation, or no operation has such a number.
-    pub fn new(operation: u32, number: u64) -> Option<Kind> {
-        let operation = Operation::from_number(operation)?;
+    pub fn new(operation: u8, number: u64) -> Option<Kind> {
+        let operation = Operation::try_from(operation).ok()?;
         if number < 64 {
             Some(Kind {
                 operation,

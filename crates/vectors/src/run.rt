@@ -1,22 +1,16 @@
 // A vector run through its operation, and compared with what is expected.
-use crate::list::{Vector, bytes};
+use crate::list::Vector;
 use crate::operation::Operation;
 use answer::Answer;
 use buffer::{read_size, read_value};
 use preview::Previewed;
-use tape::part::part_of;
 
-// Buffers, longer than any that a list asks for, full of bytes that are not zero.
-fn result_room() -> [u8; 16384] {
-    [0xA5; 16384]
-}
-
-fn work_room() -> [u8; 69632] {
-    [0xA5; 69632]
-}
-
-fn message_room() -> [u8; 4096] {
-    [0xA5; 4096]
+// The buffers that an operation is lent, full of bytes that are not zero.
+#[derive(Drop)]
+struct Buffers<'a> {
+    result: &'a mut [u8],
+    work: &'a mut [u8],
+    message: &'a mut [u8],
 }
 
 // The five numbers of an answer.
@@ -66,78 +60,75 @@ fn build(registry: &[u8], message: &mut [u8], counts: &mut [u32; 255]) -> Answer
     built.answer
 }
 
-fn run_substitute(
-    s: &[u8],
-    v: Vector,
-    res: &mut [u8],
-    work: &mut [u8],
-    message: &mut [u8],
-) -> Answer {
-    let definition = bytes(s, v.first);
-    let call = bytes(s, v.second);
-    substitution::substitute(definition, call, v.limit, v.file, res, work, message)
-}
-
-fn run_expand(
-    s: &[u8],
-    v: Vector,
-    res: &mut [u8],
-    work: &mut [u8],
-    message: &mut [u8],
-    counts: &mut [u32; 255],
-) -> Answer {
-    let registry = bytes(s, v.first);
-    let condition = bytes(s, v.second);
-    expansion::expand_lent(
-        registry, condition, v.limit, v.file, res, work, message, counts,
-    )
-}
-
-fn run_preview(s: &[u8], v: Vector, work: &mut [u8], message: &mut [u8]) -> Previewed {
-    preview::preview(
-        bytes(s, v.first),
-        bytes(s, v.second),
+fn run_substitute(v: &Vector, buffers: &mut Buffers) -> Answer {
+    substitution::substitute(
+        v.first,
+        v.second,
         v.limit,
         v.file,
-        work,
-        message,
+        buffers.result,
+        buffers.work,
+        buffers.message,
     )
 }
 
-fn run_judge(s: &[u8], v: Vector, res: &mut [u8], work: &mut [u8], message: &mut [u8]) -> Answer {
-    let registry = bytes(s, v.first);
-    let condition = bytes(s, v.second);
-    let supplied = bytes(s, v.third);
+fn run_expand(v: &Vector, buffers: &mut Buffers, counts: &mut [u32; 255]) -> Answer {
+    expansion::expand_lent(
+        v.first,
+        v.second,
+        v.limit,
+        v.file,
+        buffers.result,
+        buffers.work,
+        buffers.message,
+        counts,
+    )
+}
+
+fn run_preview(v: &Vector, buffers: &mut Buffers) -> Previewed {
+    preview::preview(
+        v.first,
+        v.second,
+        v.limit,
+        v.file,
+        buffers.work,
+        buffers.message,
+    )
+}
+
+fn run_judge(v: &Vector, buffers: &mut Buffers) -> Answer {
     judge::judge(
-        registry, condition, supplied, v.limit, v.file, res, work, message,
+        v.first,
+        v.second,
+        v.third,
+        v.limit,
+        v.file,
+        buffers.result,
+        buffers.work,
+        buffers.message,
     )
 }
 
 // What the vector's operation answers, if it has one. Of all but a preview, no sizes of a result stand beside the answer.
-fn run(
-    s: &[u8],
-    v: Vector,
-    res: &mut [u8],
-    work: &mut [u8],
-    message: &mut [u8],
-    counts: &mut [u32; 255],
-) -> Option<Previewed> {
-    let tape = bytes(s, v.first);
+fn run(v: &Vector, buffers: &mut Buffers, counts: &mut [u32; 255]) -> Option<Previewed> {
+    let tape = v.first;
     let answer = match v.kind?.operation {
-        Operation::Check => check_body::check(tape, message),
-        Operation::Registry => build(tape, message, counts),
-        Operation::Substitute => run_substitute(s, v, res, work, message),
-        Operation::Expand => run_expand(s, v, res, work, message, counts),
-        Operation::Preview => return Some(run_preview(s, v, work, message)),
-        Operation::CheckLibrary => check_library::check_library(tape, res, message),
-        Operation::CheckAt => check_library::check_at(tape, v.index, message),
-        Operation::Judge => run_judge(s, v, res, work, message),
-        Operation::Merge => merge::merge(tape, bytes(s, v.second), res, message),
-        Operation::Older => older::older(tape, res),
+        Operation::Check => check_body::check(tape, buffers.message),
+        Operation::Registry => build(tape, buffers.message, counts),
+        Operation::Substitute => run_substitute(v, buffers),
+        Operation::Expand => run_expand(v, buffers, counts),
+        Operation::Preview => return Some(run_preview(v, buffers)),
+        Operation::CheckLibrary => {
+            check_library::check_library(tape, buffers.result, buffers.message)
+        }
+        Operation::CheckAt => check_library::check_at(tape, v.index, buffers.message),
+        Operation::Judge => run_judge(v, buffers),
+        Operation::Merge => merge::merge(tape, v.second, buffers.result, buffers.message),
+        Operation::Older => older::older(tape, buffers.result),
         Operation::Profile => profile::profile(tape),
         Operation::Provider => provider::provider(tape),
-        Operation::ArgumentToTerm => provider::argument_to_term(tape, res),
-        Operation::TermToArgument => provider::term_to_argument(tape, res),
+        Operation::ArgumentToTerm => provider::argument_to_term(tape, buffers.result),
+        Operation::TermToArgument => provider::term_to_argument(tape, buffers.result),
     };
     Some(Previewed {
         answer,
@@ -147,45 +138,39 @@ fn run(
 }
 
 // The answer and the counts. A vector that has no operation has no answer that a list could expect.
-fn answers(s: &[u8], v: Vector, res: &mut [u8], work: &mut [u8], message: &mut [u8]) -> bool {
-    let mut counts = counts_of(bytes(s, v.given));
-    let Some(r) = run(s, v, res, work, message, &mut counts) else {
+fn answers(v: &Vector, buffers: &mut Buffers) -> bool {
+    let mut counts = counts_of(v.given);
+    let Some(r) = run(v, buffers, &mut counts) else {
         return false;
     };
-    tells(r, part_of(s, v.numbers, 56)) && same_counts(&counts, bytes(s, v.counted))
+    tells(r, v.numbers) && same_counts(&counts, v.counted)
 }
 
-fn on_buffers(s: &[u8], v: Vector, res: &mut [u8], work: &mut [u8], message: &mut [u8]) -> bool {
-    answers(s, v, res, work, message)
-        && holds(res, bytes(s, v.result))
-        && holds(work, b"")
-        && holds(message, bytes(s, v.message))
-}
-
-fn lend_result(s: &[u8], v: Vector, work: &mut [u8], message: &mut [u8]) -> bool {
-    let size = read_size(part_of(s, v.sizes, 12), 0) as usize;
-    if 16384 < size {
-        return false;
-    }
-    let mut result = result_room();
-    on_buffers(s, v, &mut result[0..size], work, message)
-}
-
-fn lend_work(s: &[u8], v: Vector, message: &mut [u8]) -> bool {
-    let size = read_size(part_of(s, v.sizes, 12), 4) as usize;
-    if 69632 < size {
-        return false;
-    }
-    let mut work = work_room();
-    lend_result(s, v, &mut work[0..size], message)
+fn on_buffers(v: &Vector, buffers: &mut Buffers) -> bool {
+    answers(v, buffers)
+        && holds(buffers.result, v.result)
+        && holds(buffers.work, b"")
+        && holds(buffers.message, v.message)
 }
 
 // An operation is lent no bytes of a buffer that it has not.
-pub fn comes_out(s: &[u8], v: Vector) -> bool {
-    let size = read_size(part_of(s, v.sizes, 12), 8) as usize;
-    if 4096 < size {
+pub fn comes_out(v: &Vector) -> bool {
+    let mut result = [0xA5; 16384];
+    let mut work = [0xA5; 69632];
+    let mut message = [0xA5; 4096];
+    let Some(result) = result.get_mut(..v.sizes.result) else {
         return false;
-    }
-    let mut message = message_room();
-    lend_work(s, v, &mut message[0..size])
+    };
+    let Some(work) = work.get_mut(..v.sizes.work) else {
+        return false;
+    };
+    let Some(message) = message.get_mut(..v.sizes.message) else {
+        return false;
+    };
+    let mut buffers = Buffers {
+        result,
+        work,
+        message,
+    };
+    on_buffers(v, &mut buffers)
 }

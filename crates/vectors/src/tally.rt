@@ -58,7 +58,7 @@ impl Tally {
             let row = &self.kinds[operation as usize];
             for (number, count) in row.iter().enumerate() {
                 if count.all != 0 {
-                    print!(rt; "{} {number}: ", operation.name())?;
+                    print!(rt; "{operation} {number}: ")?;
                     count.print(rt)?;
                 }
             }
