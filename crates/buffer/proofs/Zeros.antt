@@ -1,21 +1,14 @@
--- Zeros behind a place: a turn of the loop that writes them, its end, and what was written in front of them.
+-- Zeros behind a place: where the buffer ends in front of it, and what was written in front of them.
 -- Assumes nothing.
 use mathlib.Core.Path.{◌≡◌, refl}
 use mathlib.Core.List.{List, [], append-nil}
-use Prim.Native.Nat.{ℕ, suc, ◌+◌, ◌-◌, ◌≤◌, ◌<◌}
+use Prim.Native.Nat.{ℕ, ◌-◌, ◌≤◌}
 use native.Mathlib.Omega.{arith}
-use native.Mathlib.Numerals.{add-one}
-use lib.ListN.{length, set, length-set}
-use lib.Seq.{sets, length-sets, take_all, take-suc-set, append_snoc}
+use lib.ListN.{length}
+use lib.Seq.{sets, length-sets, take_all}
 use Rattle.definition.specs.Answers.{padded}
 use Rattle.buffer.specs.Buffer.{zeroed}
 use Rattle.buffer.proofs.Kept.{spells_sets}
-
-pub zeroed_turn : (s : List ℕ) (i : ℕ) → i < length s → zeroed (set s i 0) (i + 1) ≡ zeroed s i
-unfolding zeroed
-zeroed_turn s i h =
-    let e : length s - i ≡ suc (length s - suc i) = omega arith in
-    rw (add-one, take-suc-set, length-set, append_snoc, e)
 
 pub zeroed_end : (s : List ℕ) (i : ℕ) → length s ≤ i → zeroed s i ≡ s
 unfolding zeroed

@@ -14,7 +14,8 @@ ghost use Rattle.buffer.specs.Buffer.{zeroed, message_in, write_in};
 
 pub mod message;
 
-// Writes `piece` into `s` from `at` on, as far as `s` reaches. The loop has one end, so that the compiler writes many bytes at once.
+// Writes `piece` into `s` from `at` on, as far as `s` reaches. The loop has one end, so that the compiler writes many bytes at once. It is no
+// `copy_from_slice` of a part, which would be a call of memcpy: most pieces here are of one to eight bytes.
 #[tactic(auto, using(crate::proofs::Sets::sets_stop))]
 pub fn write(s: &mut [u8], at: usize, piece: &[u8])
     ensures { s.new ≡ sets s.old at piece.now }
@@ -26,13 +27,12 @@ pub fn write(s: &mut [u8], at: usize, piece: &[u8])
 }
 
 // Fills `s` from `at` on with zeros.
-#[tactic(auto, using(crate::proofs::Zeros::zeroed_turn, crate::proofs::Zeros::zeroed_end))]
+#[tactic(auto, unfolding(crate::specs::Buffer::zeroed))]
 pub fn zero_from(s: &mut [u8], at: usize)
     ensures { s.new ≡ zeroed s.old at }
 {
-    for i in at..s.len() {
-        s[i] = 0;
-    }
+    let from = at.min(s.len());
+    s[from..].fill(0);
 }
 
 // Fills `s` with zeros.
@@ -47,7 +47,7 @@ pub fn zero(s: &mut [u8])
 fn byte(s: &[u8], i: usize) -> u8
     ensures { result ≡ get_or s.now i 0 }
 {
-    if i < s.len() { s[i] } else { 0 }
+    s.get(i).copied().unwrap_or(0)
 }
 
 // The number whose 4 bytes stand at `at`.
@@ -118,7 +118,7 @@ pub fn write_size(s: &mut [u8], at: usize, size: usize)
 }
 
 // How many decimal digits a number has. Document 02, point 2: digits are found by dividing numbers of 32 bits and no wider ones, here and
-// below, which the parameter's type says.
+// below, which the parameter's type says. So both are written here: the library's decimals (itoa) are divisions of 64 bits.
 #[tactic(auto, using(crate::proofs::Decimals::at_most_10_digits, crate::proofs::Decimals::small_length, crate::proofs::Decimals::step_length))]
 pub fn digit_count(n: u32) -> usize
     ensures { result ≡ length (decimal n) }

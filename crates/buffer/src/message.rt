@@ -7,7 +7,7 @@ ghost use Rattle.buffer.specs.Message.{Puts, so_far};
 use crate::{write_at, write_number};
 
 // The buffer, and where the message in it ends. No other struct holds one of these, since whoever lent the buffer would not learn then
-// what was written to it.
+// what was written to it. It derives neither Debug nor equality, since what it holds is a lent buffer.
 #[derive(Drop)]
 pub struct Message<'a> {
     pub bytes: &'a mut [u8],

@@ -9,7 +9,8 @@ use area::Writer;
 use tape::layout::{Place, Tape, of_area};
 
 // The next place of the body or the condition that is walked, the slice that the output is in and its writer there, and what was
-// charged. It is lent from node to node. A walk that is refused leaves in it what was charged until then.
+// charged. It is lent from node to node. A walk that is refused leaves in it what was charged until then. It derives neither Debug nor
+// equality, since what it holds is a lent slice.
 #[derive(Drop)]
 pub struct Cursor<'a> {
     pub place: Place,
