@@ -43,12 +43,19 @@ length_generated name start (suc f) =
 -- ------------------------------------------------------------------ the writes
 
 module _ (s name : List ℕ) (start file : ℕ) where
+  -- a sign, and a number behind it
+  abbrev marked : ℕ → ℕ → Message → Message
+  marked sign n m = write_in (decimal n) (write_in (sign ∷ []) m)
+
+  marked_lem : (sign n : ℕ) (m : Message) → marked sign n m ≡ write_in (sign ∷ decimal n) m
+  marked_lem sign n m = write_append (sign ∷ []) (decimal n) m
+
   abbrev named : Message
-  named = write_in (36 ∷ decimal start) (write_in name (message_in s 0))
+  named = marked 36 start (write_in name (message_in s 0))
 
   name_written : named ≡ write_in (start_name name start) (message_in s 0)
   unfolding start_name utf8 utf8_char
-  name_written = write_append name (36 ∷ decimal start) (message_in s 0)
+  name_written = marked_lem 36 start (write_in name (message_in s 0)) ∙ write_append name (36 ∷ decimal start) (message_in s 0)
 
   pub file_0_written : file ≤ 0 → sets s 0 (generated name start file) ≡ named.bytes
   unfolding write_in generated in_file
@@ -56,13 +63,13 @@ module _ (s name : List ℕ) (start file : ℕ) where
       let e : file ≡ 0 = omega arith in
       rw e (ap (λ (m : Message). m.bytes) (sym name_written))
 
-  in_file_named : 0 < file
-      → write_in (35 ∷ decimal file) named ≡ write_in (in_file file (start_name name start)) (message_in s 0)
+  in_file_named : 0 < file → marked 35 file named ≡ write_in (in_file file (start_name name start)) (message_in s 0)
   in_file_named h =
-      rw (name_written, in_file_lem (start_name name start) file h)
+      marked_lem 35 file named
+      ∙ rw (name_written, in_file_lem (start_name name start) file h)
       (write_append (start_name name start) (35 ∷ decimal file) (message_in s 0))
 
-  pub in_file_written : 0 < file → sets s 0 (generated name start file) ≡ (write_in (35 ∷ decimal file) named).bytes
+  pub in_file_written : 0 < file → sets s 0 (generated name start file) ≡ (marked 35 file named).bytes
   unfolding write_in generated
   in_file_written h = ap (λ (m : Message). m.bytes) (sym (in_file_named h))
 

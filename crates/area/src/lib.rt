@@ -6,16 +6,19 @@
 // nothing more is written: the walk goes on, since a refusal that it meets later comes first.
 #![tactic(auto)]
 
-ghost use Rattle.std.specs.Prelude.{◌≡◌, ◌+◌, ◌*◌, ◌<◌, ◌≤◌, [], ◌++◌, length};
+ghost use Rattle.std.specs.Prelude.{◌≡◌, ◌+◌, ◌*◌, ◌<◌, ◌≤◌, [], length};
 ghost use Rattle.std.proofs.lemmas.List.Edits.{sets};
 ghost use Rattle.format.specs.Entry.{le};
 ghost use Rattle.format.specs.Stands.{part};
-ghost use Rattle.definition.specs.Text.{decimal};
 ghost use Rattle.definition.specs.Substitute.{in_file, generated};
-ghost use Rattle.buffer.specs.Buffer.{Decides, message_in, write_in};
+ghost use Rattle.buffer.specs.Buffer.{Decides};
 ghost use Rattle.area.specs.Area.{area_in, empty_at, overflow_of, grown, headed, RoomFor, append_in, put_in, put_text_in, append_out_in, patch_in, finished_in};
 
-// A writer's state: its area's base, how many entries and text bytes stand there, and whether they were too many.
+use buffer::message::Message;
+
+// A writer's state: its area's base, how many entries and text bytes stand there, and whether they were too many. It stands beside its
+// slice, as `s, out`, and does not hold it: a walk's cursor holds both, and a struct with a `&mut` in a struct with one would not tell
+// whoever lent the slice what it holds in the end.
 #[derive(Clone, Copy, Debug, PartialEq, Eq)]
 pub struct Writer {
     pub base: usize,
@@ -152,25 +155,18 @@ fn generated_length(name: &[u8], start: u32, file: u16) -> usize
     name.len() + 1 + buffer::digit_count(start) + file_length(file)
 }
 
-// Writes a mark at `at` and a number in decimal into the part of `text` behind it, as far as `text` reaches, and answers where
-// the number ends.
-#[tactic(auto, using(buffer::proofs::Messages::write_append))]
-fn write_marked(text: &mut [u8], at: usize, mark: &[u8], number: u32) -> usize
-    ensures { message_in text.new result ≡ write_in (mark.now ++ decimal number) (message_in text.old at) }
-{
-    let behind = buffer::write_at(text, at, mark);
-    buffer::write_number(text, behind, number)
-}
-
 // Writes `name`, `$`, `start` and, in a file above 0, `#` and `file` at the front of `text`, as far as it reaches.
 #[tactic(auto, using(crate::proofs::Generated::file_0_written, crate::proofs::Generated::in_file_written))]
 fn write_generated(text: &mut [u8], name: &[u8], start: u32, file: u16)
     ensures { text.new ≡ sets text.old 0 (generated name.now start file) }
 {
-    let dollar = buffer::write_at(text, 0, name);
-    let end = write_marked(text, dollar, b"$", start);
+    let mut written = Message::new(text);
+    written.put(name);
+    written.put(b"$");
+    written.put_number(start);
     if file > 0 {
-        write_marked(text, end, b"#", file as u32);
+        written.put(b"#");
+        written.put_number(file as u32);
     }
 }
 

@@ -14,8 +14,8 @@ ghost use Rattle.buffer.specs.Buffer.{zeroed, message_in, write_in};
 
 pub mod message;
 
-// Writes `piece` into `s` from `at` on, as far as `s` reaches. The loop has one end, so that the compiler writes many bytes at once. It is no
-// `copy_from_slice` of a part, which would be a call of memcpy: most pieces here are of one to eight bytes.
+// Writes `piece` into `s` from `at` on, as far as `s` reaches. The loop has one end, so that the compiler writes many bytes at once. It is
+// no `copy_from_slice` of a part, which would be a call of memcpy: most pieces here are of one to eight bytes.
 #[tactic(auto, using(crate::proofs::Sets::sets_stop))]
 pub fn write(s: &mut [u8], at: usize, piece: &[u8])
     ensures { s.new ≡ sets s.old at piece.now }

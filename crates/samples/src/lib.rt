@@ -19,7 +19,7 @@ pub fn condition(case: u32, tape: &mut [u8]) -> usize {
     sheet.finish(tape)
 }
 
-// An area that entries are written to.
+// An area that entries are written to. It derives neither Debug nor equality, since what it holds is a buffer.
 #[derive(Drop)]
 struct Sheet {
     area: [u8; 12288],
