@@ -29,7 +29,9 @@ use tape::layout::{Place, Tape};
 // Why an input is refused. A name is one of the definition's tape (a registry's too), or of the call's (a condition's too).
 #[derive(Clone, Copy, Debug, PartialEq, Eq)]
 pub enum Reason {
-    // 1, 2, 3 and all from 48 up say nothing: the number
+    // 1, 2, 3 and all from 48 up say nothing: the number. There is no case for each: what a read of a node refuses has its number, in the
+    // form that document 01 names, and is handed on as it is, so that a case for 2, 3, 48 or 51 would stand beside this one and not in
+    // its place.
     WithoutMessage(u32),
     // 10, 11: the definition's name; the span of the one before
     Reserved(Name),

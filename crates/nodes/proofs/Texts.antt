@@ -1,6 +1,6 @@
 -- The library's equality of slices is the definition's of texts.
 -- Assumes nothing.
-use Rattle.std.proofs.Common.{◌≡◌, ◌&&◌, List, ℕ, [], ◌∷◌, nat_eq, refl, ap}
+use Rattle.std.proofs.Common.{◌≡◌, ◌&&◌, [], ◌∷◌, nat_eq, refl, ap}
 use lib.Pointwise.{pointwise}
 use lib.Dec.{eqb}
 use Rattle.format.specs.Entry.{Text}

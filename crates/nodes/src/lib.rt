@@ -18,6 +18,7 @@ pub struct Span {
     pub end: u32,
 }
 
+// Why no node was read. Document 01 names the form: a refusal with a number and, nested in it, a span.
 #[derive(Clone, Copy, Debug, PartialEq, Eq)]
 pub struct Refusal {
     pub number: u32,
@@ -222,15 +223,10 @@ fn past(tape: &Tape, p: Place, code: u8) -> Option<Place>
 }
 
 // The place behind `count` texts.
-#[tactic(auto, using(crate::proofs::Items::item_passed, crate::proofs::Items::item_missing, crate::proofs::Items::items_passed), unfolding(crate::specs::Node::past_texts_at))]
 fn past_texts(tape: &Tape, p: Place, count: u64) -> Option<Place>
     ensures { result ≡ past_texts_at tape.now.bytes.now tape.now.layout p count }
 {
-    let mut q = p;
-    for _ in 0..count {
-        q = past(tape, q, code::TEXT)?;
-    }
-    Some(q)
+    (0..count).try_fold(p, |q, _| past(tape, q, code::TEXT))
 }
 
 // The place of a predicate's fields: behind its own span, its namespace, action and kind.
@@ -457,15 +453,10 @@ fn past_param(tape: &Tape, p: Place) -> Option<Place>
 }
 
 // The place behind `count` parameters.
-#[tactic(auto, using(crate::proofs::Items::item_passed, crate::proofs::Items::item_missing, crate::proofs::Items::items_passed), unfolding(crate::specs::Node::past_params_at))]
 pub fn past_params(tape: &Tape, p: Place, count: u64) -> Option<Place>
     ensures { result ≡ past_params_at tape.now.bytes.now tape.now.layout p count }
 {
-    let mut q = p;
-    for _ in 0..count {
-        q = past_param(tape, q)?;
-    }
-    Some(q)
+    (0..count).try_fold(p, |q, _| past_param(tape, q))
 }
 
 #[tactic(auto, unfolding(crate::specs::Node::body_at, crate::specs::Node::refusal_of, crate::specs::Node::span_of))]
