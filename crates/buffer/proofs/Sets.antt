@@ -1,12 +1,15 @@
 -- Laws of `sets`, the stores that a loop or a run of writes leaves, and of the part of a list that they leave alone.
 -- Assumes nothing.
 use mathlib.Core.Path.{◌≡◌, refl, sym, ap, ◌∙◌}
-use mathlib.Core.List.{List, [], ◌∷◌, ◌++◌}
-use Prim.Native.Nat.{ℕ, suc, ◌+◌, ◌-◌, ◌≤◌, min}
+use mathlib.Core.List.{List, [], ◌∷◌, ◌++◌, map}
+use Prim.Native.Nat.{ℕ, suc, ◌+◌, ◌-◌, ◌≤◌, ◌<◌, min}
 use native.Mathlib.Nat.{zero-add, add-zero, add-suc, suc-add}
 use native.Mathlib.Omega.{arith}
-use lib.ListN.{length, take, drop, set, length-set, drop_of_length-le}
-use lib.Seq.{sets, set_out, set-append_left, take-set-le, drop-set-lt}
+use native.Mathlib.Numerals.{add-one}
+use lib.ListN.{length, take, drop, get_or, set, length-set, length-map, drop_of_length-le}
+use lib.Seq.{sets, drop-cons, set_out, set-append_left, take-set-le, drop-set-lt}
+use Rattle.std.proofs.lemmas.List.{get_or-map}
+use Rattle.buffer.specs.Buffer.{WritesEach}
 use Rattle.buffer.proofs.Decides.{le_or}
 
 -- stores past the end change nothing
@@ -56,3 +59,18 @@ pub sets_stop : (s : List ℕ) (at : ℕ) (vs : List ℕ) (j : ℕ) → min (len
 sets_stop s at vs j h = le_or (length vs) j
     (λ e. sets_end s (at + j) vs j e)
     (λ e. sets_out s (at + j) (drop j vs) (omega (arith, h, e)))
+
+-- and one that stores what f makes of each element: one more
+pub sets_mapped : (f : ℕ → ℕ) (s : List ℕ) (at : ℕ) (vs : List ℕ) (j : ℕ) {x : ℕ} {whole : List ℕ} → sets s (at + j) (drop j (map f vs)) ≡ whole
+    → j < length vs → x ≡ f (get_or vs j 0) → sets (set s (at + j) x) (at + (j + 1)) (drop (j + 1) (map f vs)) ≡ whole
+sets_mapped f s at vs j {x} left h e =
+    let m : drop j (map f vs) ≡ x ∷ drop (suc j) (map f vs) =
+    drop-cons (map f vs) j 0 (omega (arith, length-map vs f)) ∙ ap (λ (y : ℕ). y ∷ drop (suc j) (map f vs)) (get_or-map f vs j 0 0 h ∙ sym e) in
+    let k : at + suc j ≡ suc (at + j) = omega arith in
+    rw (add-one, k) (sym (ap (sets s (at + j)) m)) ∙ left
+
+-- its end, for each f that the calls agree with
+pub sets_each : {P : ℕ → ℕ → Type 0} (s₀ s : List ℕ) (at : ℕ) (vs : List ℕ) (j : ℕ) → min (length s - at) (length vs) ≤ j
+    → ((f : ℕ → ℕ) → ((b x : ℕ) → P b x → x ≡ f b) → sets s (at + j) (drop j (map f vs)) ≡ sets s₀ at (map f vs)) → WritesEach P at vs s₀ s
+unfolding WritesEach
+sets_each s₀ s at vs j h left f k = sym (sets_stop s at (map f vs) j (omega (arith, length-map vs f, h))) ∙ left f k

@@ -1,6 +1,6 @@
 -- Bytes in a buffer: what a write changes, zeros, and a message that is written piece by piece.
 -- Assumes nothing.
-use Rattle.std.specs.Prelude.{ℕ, min, ◌+◌, ◌-◌, ◌≡◌, List, ◌++◌, Bool, true, false, length, take, drop, replicate}
+use Rattle.std.specs.Prelude.{ℕ, min, ◌+◌, ◌-◌, ◌≡◌, List, ◌++◌, Bool, true, false, length, map, take, drop, replicate}
 use Rattle.std.proofs.lemmas.List.Edits.{sets}
 
 -- r says whether P holds
@@ -11,6 +11,10 @@ pub record Decides (P : Type 0) (r : Bool) : Type 0 where
 -- s, with zeros from i on
 unfoldable pub zeroed : List ℕ → ℕ → List ℕ
 zeroed s i = take i s ++ replicate (length s - i) 0
+
+-- s' is s with what calls make of each byte of a piece, from `at` on: for each f that they agree with, what f makes of it
+unfoldable pub WritesEach : (ℕ → ℕ → Type 0) → ℕ → List ℕ → List ℕ → List ℕ → Type 0
+WritesEach P at piece s s' = (f : ℕ → ℕ) → ((b x : ℕ) → P b x → x ≡ f b) → s' ≡ sets s at (map f piece)
 
 -- s and s' differ from b up to, not including, e alone
 pub record Kept (b e : ℕ) (s s' : List ℕ) : Type 0 where

@@ -10,7 +10,7 @@ ghost use Rattle.format.specs.Tape.{from_le};
 ghost use Rattle.format.specs.Stands.{part};
 ghost use Rattle.definition.specs.Text.{decimal};
 ghost use Rattle.definition.specs.Answers.{padded};
-ghost use Rattle.buffer.specs.Buffer.{zeroed, message_in, write_in};
+ghost use Rattle.buffer.specs.Buffer.{zeroed, message_in, write_in, WritesEach};
 
 pub mod message;
 
@@ -23,6 +23,20 @@ pub fn write(s: &mut [u8], at: usize, piece: &[u8])
     let n = s.len().saturating_sub(at).min(piece.len());
     for j in 0..n {
         s[at + j] = piece[j];
+    }
+}
+
+// Writes what each byte of `piece` becomes into `s` from `at` on, as far as `s` reaches.
+#[tactic(auto, using(crate::proofs::Sets::sets_mapped, crate::proofs::Sets::sets_each))]
+pub fn write_each<F>(s: &mut [u8], at: usize, piece: &[u8], becomes: F)
+where
+    F: Fn(u8) -> u8,
+    requires { F.IsAlwaysCallable becomes }
+    ensures { WritesEach (F.post becomes) at piece.now s.old s.new }
+{
+    let n = s.len().saturating_sub(at).min(piece.len());
+    for j in 0..n {
+        s[at + j] = becomes(piece[j]);
     }
 }
 

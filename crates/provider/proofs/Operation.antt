@@ -42,23 +42,23 @@ use Rattle.answer.proofs.Ends.{result_written}
 use Rattle.answer.proofs.Operations.{refused_tape, read_rewritten, ends_short, ends_refused}
 use Rattle.provider.specs.declared.Way.{Way}
 use Rattle.provider.specs.declared.Way.TheVariants.{ToTerm, ToArgument}
-use Rattle.provider.specs.Turned.{turned_or_0, any_lost, turned_on, codes_in, turned_in, AnswersTurned}
+use Rattle.provider.specs.Turned.{turned_or_0, any_lost, lost_number, turned_on, codes_in, turned_in, AnswersTurned}
 use Rattle.provider.proofs.Codes.{turned_padded}
 use Rattle.provider.proofs.Turned.{argument_turned, term_turned}
 
 -- ------------------------------------------------------------------ what was written, or not
 
-module _ (way : Way) (number : ℕ) (s : List ℕ) (l : Layout) (before : List ℕ) {codes : List ℕ} {lost : Bool} (c : codes ≡ codes_in s l)
+module _ (way : Way) (s : List ℕ) (l : Layout) (before : List ℕ) {codes : List ℕ} {lost : Bool} (c : codes ≡ codes_in s l)
     (w : lost ≡ any_lost way codes) where
-  pub in_lost : {a : Answer} → lost ≡ true → a ≡ ended (result_alone (length before)) (number_alone number)
-      → AnswersTurned way number s l (length before) a
+  pub in_lost : {a : Answer} → lost ≡ true → a ≡ ended (result_alone (length before)) (number_alone (lost_number way))
+      → AnswersTurned way s l (length before) a
   unfolding AnswersTurned ended answer turned number_alone
   in_lost t e inside room =
       let f : any_lost way (codes_in s l) ≡ true = sym (w ∙ ap (any_lost way) c) ∙ t in
       rw f e
 
   pub in_turned : {r : code.Answer} {after : List ℕ} → lost ≡ false → after ≡ turned_on before s (map (turned_or_0 way) codes)
-      → answer_with r [] [] [] ≡ ended (result_alone 0) (number_alone 0) → AnswersTurned way number s l (length before) (answer_with r after [] [])
+      → answer_with r [] [] [] ≡ ended (result_alone 0) (number_alone 0) → AnswersTurned way s l (length before) (answer_with r after [] [])
   unfolding AnswersTurned turned number_alone
   in_turned {after = after} t e z inside room =
       let f : any_lost way (codes_in s l) ≡ false = sym (w ∙ ap (any_lost way) c) ∙ t in
@@ -165,7 +165,7 @@ module _ (n : ℕ) (s : List ℕ) {a : Answer} where
     argument_refused {f} e =
         turning_refused (accept argument_root) argument_to_term flat_term 56 n s (fault_number f) long (refused_by argument_root lawful_argument s bytes (answers argument_root_lem s) (λ x. turned 56 (argument_to_term x)) e)
 
-    pub argument_given : {l : Layout} → accept_by provider_grammar 64 s sort.argument ≡ Ok l → AnswersTurned ToTerm 56 s l n a
+    pub argument_given : {l : Layout} → accept_by provider_grammar 64 s sort.argument ≡ Ok l → AnswersTurned ToTerm s l n a
         → a ≡ argument_to_term_answer n s
     unfolding AnswersTurned argument_to_term_answer argument_root reading
     argument_given {l} e h =
@@ -190,7 +190,7 @@ module _ (n : ℕ) (s : List ℕ) {a : Answer} where
         (read_rewritten rewrites_term lawful_term s bytes (λ x. turned 58 (term_to_argument x)) ∙ refused_tape term_root term_root_lem s _ e)
 
     -- what becomes an argument is its own rewriting, and what becomes none has a rewriting that becomes none
-    pub term_given : {l : Layout} → accept_of s term ≡ Ok l → AnswersTurned ToArgument 58 s l n a → a ≡ term_to_argument_answer n s
+    pub term_given : {l : Layout} → accept_of s term ≡ Ok l → AnswersTurned ToArgument s l n a → a ≡ term_to_argument_answer n s
     unfolding AnswersTurned term_to_argument_answer term_root reading
     term_given {l} e h =
         let x = accepted_root term_root_lem s bytes l e in

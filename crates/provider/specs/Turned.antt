@@ -54,7 +54,7 @@ codes_in s l = part s l.codes l.entries
 abbrev pub turned_in : Way → List ℕ → Layout → Maybe (List ℕ)
 turned_in way s l = pick (any_lost way (codes_in s l)) none (some (sets s 8 (map (turned_or_0 way) (codes_in s l))))
 
--- a is the answer of the tape turned, or of the number, in a result buffer of n bytes that has room for it
-unfoldable pub AnswersTurned : Way → (number : ℕ) → List ℕ → Layout → ℕ → Answer → Type 0
-AnswersTurned way number s l n a =
-    8 + l.entries ≤ length s → length s ≤ n → a ≡ answer (λ (t : List ℕ). t) (result_alone n) (turned number (turned_in way s l))
+-- a is the answer of the tape turned, or of the number where a code becomes none, in a result buffer of n bytes that has room for it
+unfoldable pub AnswersTurned : Way → List ℕ → Layout → ℕ → Answer → Type 0
+AnswersTurned way s l n a =
+    8 + l.entries ≤ length s → length s ≤ n → a ≡ answer (λ (t : List ℕ). t) (result_alone n) (turned (lost_number way) (turned_in way s l))

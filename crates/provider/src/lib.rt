@@ -10,7 +10,7 @@ ghost use Rattle.answer.specs.Matches.{answer_with};
 ghost use Rattle.provider.specs.Turned.{term_code, argument_code, turned_code, turned_or_0, any_lost, lost_number, turned_on, AnswersTurned};
 
 use answer::{Answer, refuse_result, result_written};
-use buffer::{write, zero_from};
+use buffer::{write, write_each, zero_from};
 use grammar::code;
 use grammar::codes::TERM;
 use grammar::provider::{ARGUMENT, ROOT, table};
@@ -86,29 +86,19 @@ fn any_lost(way: Way, codes: &[u8]) -> bool
     codes.iter().any(|&code| turned_code(way, code).is_none())
 }
 
-// Writes what the codes become where a tape has its codes: behind the two sizes.
-fn write_codes(way: Way, codes: &[u8], res: &mut [u8])
-    ensures { res.new ≡ sets res.old 8 (map (turned_or_0 way) codes.now) }
-{
-    for (i, &code) in codes.iter().enumerate() {
-        let code = turned_code(way, code).unwrap_or(0);
-        write(res, 8 + i, &[code]);
-    }
-}
-
-// Writes the tape with its codes turned, every value and the text as they are, and zeros behind it.
+// Writes the tape with its codes turned, where they stand behind the two sizes, every value and the text as they are, and zeros behind it.
 fn write_turned(way: Way, bytes: &[u8], codes: &[u8], res: &mut [u8])
     ensures { res.new ≡ turned_on res.old bytes.now (map (turned_or_0 way) codes.now) }
 {
     write(res, 0, bytes);
     zero_from(res, bytes.len());
-    write_codes(way, codes, res);
+    write_each(res, 8, codes, |code| turned_code(way, code).unwrap_or(0));
 }
 
 // The answer of a tape turned; or a number, where one of its codes becomes none.
 #[tactic(auto, using(crate::proofs::Operation::in_lost, crate::proofs::Operation::in_turned))]
 fn turn(way: Way, tape: &Tape, res: &mut [u8]) -> Answer
-    ensures { AnswersTurned way (lost_number way) tape.now.bytes.now tape.now.layout (length res.old) (answer_with result res.new [] []) }
+    ensures { AnswersTurned way tape.now.bytes.now tape.now.layout (length res.old) (answer_with result res.new [] []) }
 {
     let codes = part_of(tape.bytes, tape.layout.codes, tape.layout.entries);
     if any_lost(way, codes) {

@@ -1,16 +1,14 @@
 -- The older tape of the entries at a layout: a turn of each loop, and what the writes make.
 -- Assumes nothing.
-use Rattle.std.proofs.Common.{◌≡◌, ℕ, zero, suc, ◌+◌, ◌-◌, ◌*◌, ◌%◌, ◌^◌, ◌<◌, ◌≤◌, Bool, true, false, not, ◌&&◌, ◌||◌, eqb, List, [], ◌∷◌, ◌++◌, length, sym, refl, ap, ◌∙◌, arith, length-append, get_or, drop}
-use Rattle.std.proofs.lemmas.List.{get_or-take, get_or-drop}
+use Rattle.std.proofs.Common.{◌≡◌, ℕ, zero, suc, ◌+◌, ◌-◌, ◌*◌, ◌%◌, ◌^◌, ◌<◌, ◌≤◌, Bool, true, false, not, ◌&&◌, ◌||◌, eqb, List, [], ◌∷◌, ◌++◌, length, sym, refl, ap, ◌∙◌, arith, length-append, map}
 use Rattle.std.specs.List.{list_all, range_with_len}
 use native.Mathlib.Nat.{mod-add-mod, add-mod}
-use lib.Seq.{sets}
+use lib.Seq.{sets, drop-cons}
 use Rattle.format.specs.Entry.{Entry, entry, le, codes_of, values_of}
 use Rattle.format.specs.Older.{sevenfold, as_days, older_entry, older_entries, fits_older}
 use Rattle.format.specs.Signed.{is_signed64}
 use Rattle.format.specs.Stands.{part}
 use Rattle.format.proofs.Accepted.{length_codes}
-use Rattle.format.proofs.Stands.{length_part}
 use Rattle.format.proofs.Encodes.{length_le, length_values}
 use Rattle.format.proofs.Older.{older_length}
 use Rattle.buffer.specs.Buffer.{zeroed}
@@ -54,15 +52,7 @@ module _ (s : List ℕ) (l : Layout) (i n : ℕ) where
   unfolding fits_older
   fits_turn h = rw (heads_step h) refl
 
-  -- one code more, and one value more
-  pub codes_turn : (m : List ℕ) → i < n
-      → sets (sets m (8 + i) ((older_entry (entry (code_at s l i) 0)).code ∷ [])) (8 + (i + 1)) (codes_of (older_entries rest))
-      ≡ sets m (8 + i) (codes_of (older_entries (heads_at s l i (n - i))))
-  unfolding codes_of older_entries
-  codes_turn m h =
-      let k : 8 + (i + 1) ≡ suc (8 + i) = omega arith in
-      rw (heads_step h, k, older_code (code_at s l i) (value_at s l i)) refl
-
+  -- one value more
   pub values_turn : (m : List ℕ) → i < n
       → sets (sets m (8 + n + 8 * i) (le 8 (older_entry head).value)) (8 + n + 8 * (i + 1)) (values_of (older_entries rest))
       ≡ sets m (8 + n + 8 * i) (values_of (older_entries (heads_at s l i (n - i))))
@@ -71,10 +61,6 @@ module _ (s : List ℕ) (l : Layout) (i n : ℕ) where
       let v = (older_entry head).value in
       let k : 8 + n + 8 * (i + 1) ≡ 8 + n + 8 * i + length (le 8 v) = omega (arith, length_le 8 v) in
       rw (heads_step h, k) (sym (sets_append m (8 + n + 8 * i) (le 8 v) (values_of (older_entries rest))))
-
-  pub codes_end : (m : List ℕ) (k : ℕ) → n ≤ i → sets m k (codes_of (older_entries (heads_at s l i (n - i)))) ≡ m
-  unfolding codes_of older_entries
-  codes_end m k h = rw (heads_none h) refl
 
   pub values_end : (m : List ℕ) (k : ℕ) → n ≤ i → sets m k (values_of (older_entries (heads_at s l i (n - i)))) ≡ m
   unfolding values_of older_entries
@@ -93,13 +79,24 @@ unfolding heads_at fits_older
 all_fine s l i zero = refl
 all_fine s l i (suc n) = ap (λ (b : Bool). fine s l i 0 && b) (all_fine s l (i + 1) n)
 
--- the codes as a slice has them
-module _ (s : List ℕ) (l : Layout) where
-  pub codes_counted : Held s l → length (part s l.codes l.entries) ≡ l.entries
-  codes_counted h = length_part s l.codes l.entries h.codes_held
+-- the code that the older tape has for one
+abbrev pub becomes : ℕ → ℕ
+becomes c = (older_entry (entry c 0)).code
 
-  pub code_is : (i : ℕ) → i < l.entries → get_or (part s l.codes l.entries) i 0 ≡ code_at s l i
-  code_is i h = get_or-take l.entries (drop l.codes s) i 0 h ∙ get_or-drop l.codes s i 0
+-- the codes that it has for those of the slice
+codes_from : (s : List ℕ) (l : Layout) (i n : ℕ) → l.codes + i + n ≤ length s
+    → map becomes (part s (l.codes + i) n) ≡ codes_of (older_entries (heads_at s l i n))
+unfolding heads_at codes_of older_entries
+codes_from s l i zero h = refl
+codes_from s l i (suc n) h =
+    let k : suc (l.codes + i) ≡ l.codes + (i + 1) = omega arith in
+    let rest = codes_from s l (i + 1) n (omega arith) in
+    rw (drop-cons s (l.codes + i) 0 (omega arith), k, rest, older_code (code_at s l i) (value_at s l i)) refl
+
+pub codes_become : {s : List ℕ} {l : Layout} → Held s l → map becomes (part s l.codes l.entries) ≡ codes_of (older_entries (heads_in s l))
+codes_become {s} {l} h =
+    let k : l.codes ≡ l.codes + 0 = omega arith in
+    ap (λ (j : ℕ). map becomes (part s j l.entries)) k ∙ codes_from s l 0 l.entries (omega (arith, h.codes_held))
 
 module _ (s : List ℕ) (l : Layout) where
   abbrev pub codes : List ℕ

@@ -9,7 +9,7 @@ ghost use Rattle.format.specs.Older.{sevenfold, older_entry, older_entries, fits
 ghost use Rattle.format.specs.Signed.{is_signed64, bits64};
 ghost use Rattle.weeks.specs.Heads.{heads_in, fits_in, older_heads, older_tape_in, filled, written_in};
 
-use buffer::{value_bytes, write, write_size};
+use buffer::{value_bytes, write, write_each, write_size};
 use grammar::code;
 use tape::held::HeldTape;
 use tape::layout::Tape;
@@ -101,13 +101,10 @@ fn older_value(code: u8, value: u64) -> u64
     }
 }
 
-#[tactic(auto, using(crate::proofs::Heads::codes_turn, crate::proofs::Heads::codes_end, crate::proofs::Heads::code_is, crate::proofs::Heads::codes_counted))]
 fn write_codes(held: &HeldTape, res: &mut [u8])
     ensures { res.new ≡ sets res.old 8 (codes_of (older_entries (heads_in held.now.tape.bytes.now held.now.tape.layout))) }
 {
-    for (i, &code) in held.codes().iter().enumerate() {
-        write(res, 8 + i, &[older_code(code)]);
-    }
+    write_each(res, 8, held.codes(), older_code);
 }
 
 // The code and the value of an entry stand in two sections, so an index is what they share.
