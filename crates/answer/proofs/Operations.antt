@@ -26,9 +26,10 @@ use Rattle.definition.specs.Answers.{Answer, Buffers, answer, number_alone, read
 use Rattle.tape.specs.Accept.{accept_named, accept_of}
 use Rattle.tape.specs.Header.{fault_number}
 use Rattle.tape.specs.declared.layout.Layout.{Layout}
+use Rattle.tape.specs.declared.layout.Tape.{Tape}
 use Rattle.tape.proofs.Acceptance.{RootOf, RootNamed, Answers, answers_2, answers_3, answers_tape, answers}
 use Rattle.walk_state.specs.Walk.{Walk}
-use Rattle.answer.specs.Matches.{ended, message_in, VerdictMatches, AnswersVerdict, OutcomeMatches, AnswersOutcome}
+use Rattle.answer.specs.Matches.{ended, message_in, VerdictMatches, AnswersVerdict, AnswersTape, short_message, tape_refused, tape_judged, OutcomeMatches, AnswersOutcome}
 use Rattle.answer.specs.Tapes.{after_first, on_first, accept_two}
 
 -- ------------------------------------------------------------------ tapes
@@ -163,7 +164,7 @@ module _ {A : Type 0} (tape : A → List ℕ) (b : Buffers) (o : Outcome A) {lon
 
 -- ------------------------------------------------------------------ one tape, and a message buffer alone
 
-pub message_short : (m : ℕ) (o : Outcome (Unit {0})) {a : Answer} → m < 2048 → a ≡ ended (message_alone m) (number_alone 1) → a ≡ message_answer m o
+message_short : (m : ℕ) (o : Outcome (Unit {0})) {a : Answer} → m < 2048 → a ≡ ended (message_alone m) (number_alone 1) → a ≡ message_answer m o
 unfolding message_answer
 message_short m o h e = ends_short (λ (u : Unit {0}). []) (message_alone m) o (lt-leb 2048 m h) e
 
@@ -172,19 +173,32 @@ module _ {A : Type 0} (root : Root A) {sort : ℕ} (r : RootOf root sort) (find 
   abbrev verdicts : Outcome (Unit {0})
   verdicts = reading (accept (weighted root) s) λ x. verdict (find x)
 
-  pub message_refused : {f : Fault} {a : Answer} → 2048 ≤ m → accept_of s sort ≡ Err f → a ≡ ended (message_alone m) (number_alone (fault_number f))
+  message_refused : {f : Fault} {a : Answer} → 2048 ≤ m → accept_of s sort ≡ Err f → a ≡ ended (message_alone m) (number_alone (fault_number f))
       → a ≡ message_answer m verdicts
   unfolding message_answer
   message_refused {f} h q e =
       ends_refused (λ (u : Unit {0}). []) (message_alone m) verdicts (fault_number f) (le-leb 2048 m h) (refused_tape root r s (λ x. verdict (find x)) q) e
 
-  pub message_verdict : {x : A} (l : Layout) (v : Result Unit Refused) {a : Answer} → 2048 ≤ m → accept (weighted root) s ≡ Reading.accepted x
+  message_verdict : {x : A} (l : Layout) (v : Result Unit Refused) {a : Answer} → 2048 ≤ m → accept (weighted root) s ≡ Reading.accepted x
       → (message_answer m verdicts).message_length ≤ 2048 → VerdictMatches s l v (find x) → AnswersVerdict s l v (message_alone m) a
       → a ≡ message_answer m verdicts
   unfolding message_answer reading ended
   message_verdict {x} l v h e short matches ends =
       ends_matched (λ (u : Unit {0}). []) (message_alone m) verdicts (le-leb 2048 m h) h short
       (λ n. let o : verdicts ≡ verdict (find x) = rw e in rw o (ends (find x) matches (rw o at n)))
+
+  -- a verdict that is found on the tape, and what the definition finds there
+  abbrev pub FoundOn : Layout → Result Unit Refused → Type 0
+  FoundOn l v = (x : A) × (accept (weighted root) s ≡ Reading.accepted x) × VerdictMatches s l v (find x)
+
+  pub tape_answered : {P : Tape → Result Unit Refused → Type 0} {a : Answer} → AnswersTape s sort P m a
+      → ((t : Tape) (v : Result Unit Refused) → t.bytes.now ≡ s → accept_of s sort ≡ Ok t.layout → P t v → FoundOn t.layout v)
+      → (message_answer m verdicts).message_length ≤ 2048 → a ≡ message_answer m verdicts
+  tape_answered (short_message h e) found short = message_short m verdicts h e
+  tape_answered (tape_refused h q e) found short = message_refused h q e
+  tape_answered (tape_judged {t} {v} h b q p ends) found short =
+      let x = found t v b q p in
+      message_verdict t.layout v h x.1 short x.2 ends
 
 -- ------------------------------------------------------------------ two tapes, and all three buffers
 

@@ -1,7 +1,7 @@
 -- The code's answers, refusals, verdicts and walks beside the definition's. An operation has only the buffers it needs; one that it has
 -- not is empty, and 0 bytes long in `Buffers`.
 -- Assumes nothing.
-use Rattle.std.specs.Prelude.{ℕ, ◌≤◌, ◌≡◌, List, [], true, length, Result, Ok, Err}
+use Rattle.std.specs.Prelude.{ℕ, ◌≤◌, ◌<◌, ◌≡◌, List, [], true, length, Result, Ok, Err}
 use Rattle.std.proofs.Math.Option.{none, some}
 use Rattle.format.specs.Entry.{Text, encode}
 use Rattle.format.specs.Ast.{Tree}
@@ -9,9 +9,13 @@ use Rattle.format.specs.Flat.{flat_tree}
 use Rattle.definition.specs.Outcome.{Refusal, Outcome}
 use Rattle.definition.specs.Check.{Verdict}
 use Rattle.definition.specs.Answers as definition
-use Rattle.definition.specs.Answers.{Buffers}
+use Rattle.definition.specs.Answers.{Buffers, message_alone, number_alone}
 use Rattle.nodes.specs.Node.{span_of}
+use Rattle.tape.specs.Accept.{accept_of}
+use Rattle.tape.specs.Header.{fault_number}
+use Rattle.tape.specs.declared.header.Fault.{Fault}
 use Rattle.tape.specs.declared.layout.Layout.{Layout}
+use Rattle.tape.specs.declared.layout.Tape.{Tape}
 use Rattle.area.specs.Area.{area_in, fits_area, Wrote}
 use Rattle.messages.specs.Reason.{number_of, message_of}
 use Rattle.messages.specs.declared.Refused.{Refused}
@@ -76,6 +80,14 @@ abbrev pub AnswersVerdict : List ℕ → Layout → Result Unit Refused → Buff
 AnswersVerdict s l v b a =
     (w : Verdict) → VerdictMatches s l v w → length (message_in (definition.verdict w)) ≤ b.message_length
     → a ≡ ended b (definition.verdict w)
+
+-- a is the answer of an operation that has the tape s and a message buffer of m bytes alone: 1 for a short buffer, then the refusal of the
+-- tape, then a verdict that P says of the accepted tape
+pub data AnswersTape (s : List ℕ) (sort : ℕ) (P : Tape → Result Unit Refused → Type 0) (m : ℕ) (a : definition.Answer) : Type 0 where
+  short_message : m < 2048 → a ≡ ended (message_alone m) (number_alone 1) → AnswersTape s sort P m a
+  tape_refused : {f : Fault} → 2048 ≤ m → accept_of s sort ≡ Err f → a ≡ ended (message_alone m) (number_alone (fault_number f)) → AnswersTape s sort P m a
+  tape_judged : {t : Tape} {v : Result Unit Refused} → 2048 ≤ m → t.bytes.now ≡ s → accept_of s sort ≡ Ok t.layout → P t v
+      → AnswersVerdict s t.layout v (message_alone m) a → AnswersTape s sort P m a
 
 -- ------------------------------------------------------------------ walks
 

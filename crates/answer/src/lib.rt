@@ -3,17 +3,19 @@
 // the answer says how long the message in it is, and nothing stands beside it.
 #![tactic(auto)]
 
-ghost use Rattle.std.specs.Prelude.{[], ◌≡◌, length};
+ghost use Rattle.std.specs.Prelude.{[], ◌≡◌, ◌&&◌, leb, length};
+ghost use Rattle.std.specs.Fn.{FnReturnsAt};
 ghost use Rattle.definition.specs.Outcome.{refusal, Outcome};
 ghost use Rattle.definition.specs.Answers.{long_buffers, message_alone, number_alone, without_work};
 ghost use Rattle.definition.specs.Older.{result_alone};
 ghost use Rattle.walk_state.specs.Writing.{came_to};
-ghost use Rattle.answer.specs.Matches.{answer_with, buffers, ended, AnswersRefusal, AnswersVerdict, AnswersOutcome};
+ghost use Rattle.answer.specs.Matches.{answer_with, buffers, ended, AnswersRefusal, AnswersVerdict, AnswersTape, AnswersOutcome};
 
 use area::finish;
 use buffer::zero;
 use messages::Refused;
 use nodes::Span;
+use tape::accept::accept;
 use tape::layout::Tape;
 use walk_state::writing::Cursor;
 
@@ -27,12 +29,31 @@ pub struct Answer {
     pub charged: u32,
 }
 
+// How long each buffer is at the least, under the names of `include/neukolja.h` (document 01).
+const RESULT_SIZE: usize = 12296;
+const WORK_SIZE: usize = 65536;
+const MESSAGE_SIZE: usize = 2048;
+
 // Whether the three buffers are as long as document 01 asks.
 #[tactic(auto, unfolding(definition::specs::Answers::long_buffers))]
 pub fn long_buffers(res: usize, work: usize, message: usize) -> bool
     ensures { result ≡ long_buffers (buffers res work message) }
 {
-    12296 <= res && 65536 <= work && 2048 <= message
+    RESULT_SIZE <= res && WORK_SIZE <= work && MESSAGE_SIZE <= message
+}
+
+// The same of an operation that has a result and a message buffer.
+pub fn long_without_work(res: usize, message: usize) -> bool
+    ensures { result ≡ (leb 12296 res && leb 2048 message) }
+{
+    RESULT_SIZE <= res && MESSAGE_SIZE <= message
+}
+
+// And of one that has a result buffer alone.
+pub fn long_result(len: usize) -> bool
+    ensures { result ≡ leb 12296 len }
+{
+    RESULT_SIZE <= len
 }
 
 // A number with the span 0..0 and no message, zeros in every buffer: success, and what comes before a walk. The 0 that functions here
@@ -122,6 +143,27 @@ pub fn answer_verdict(tape: &Tape, verdict: Result<(), Refused>, message: &mut [
     match verdict {
         Ok(()) => number_alone(0, 0, &mut [], &mut [], message),
         Err(r) => refuse(tape, tape, r, 0, &mut [], &mut [], message),
+    }
+}
+
+// The answer of such an operation: 1 for a short buffer, then the refusal of the tape, then the verdict that is found on it.
+#[tactic(auto, using(crate::specs::Matches::short_message))]
+pub fn answer_tape<F>(bytes: &[u8], sort: u64, message: &mut [u8], judge: F) -> Answer
+where
+    F: Fn(&Tape) -> Result<(), Refused>,
+    requires { F.IsAlwaysCallable judge }
+    ensures { AnswersTape bytes.now sort (FnReturnsAt F.Fn judge) (length message.old) (answer_with result [] [] message.new) }
+{
+    if message.len() < MESSAGE_SIZE {
+        return refuse_number(numbers::SHORT_BUFFER, message);
+    }
+    match accept(bytes, sort) {
+        Ok(layout) => {
+            let tape = Tape { bytes, layout };
+            let verdict = judge(&tape);
+            answer_verdict(&tape, verdict, message)
+        }
+        Err(fault) => refuse_number(fault.number(), message),
     }
 }
 

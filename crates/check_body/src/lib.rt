@@ -7,14 +7,13 @@ ghost use Rattle.definition.specs.Answers.{check_answer};
 ghost use Rattle.check_parts.specs.Names.{declaration};
 ghost use Rattle.check_body.specs.Definition.{body_in, def_in, verdict_of};
 
-use answer::{Answer, answer_verdict, refuse_number};
+use answer::{Answer, answer_tape};
 use check_parts::Declared;
 use check_walk::{check_temporal_condition_body, check_temporal_value_body};
 use grammar::code;
 use grammar::codes::DEFINITION;
 use messages::Refused;
 use nodes::{BodyNode, Refusal, past_params, read_body, read_heading};
-use tape::accept::accept;
 use tape::layout::{Place, Tape};
 
 // A Cedar body passes unread.
@@ -55,22 +54,10 @@ pub fn verdict(tape: &Tape, p: Place) -> Result<(), Refused>
 }
 
 // The operation: the answer and every byte of the message buffer are what the definition says, for every slice and every buffer.
-#[tactic(auto, using(crate::proofs::Operation::short_buffer, crate::proofs::Operation::refused_definition))]
 pub fn check(definition: &[u8], message: &mut [u8]) -> Answer
     ensures { answer_with result [] [] message.new ≡ check_answer (length message.old) definition.now }
 {
-    if message.len() < 2048 {
-        return refuse_number(numbers::SHORT_BUFFER, message);
-    }
-    match accept(definition, DEFINITION) {
-        Ok(layout) => {
-            let tape = Tape {
-                bytes: definition,
-                layout,
-            };
-            let found = verdict(&tape, Place { at: 0, text: 0 });
-            answer_verdict(&tape, found, message)
-        }
-        Err(fault) => refuse_number(fault.number(), message),
-    }
+    answer_tape(definition, DEFINITION, message, |tape| {
+        verdict(tape, Place { at: 0, text: 0 })
+    })
 }

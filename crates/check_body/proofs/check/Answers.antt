@@ -1,6 +1,8 @@
--- `check_body::check` meets its contract. `AnswersVerdict` is a function type, whose lemma `search` does not match, or stops at a limit.
-use Rattle.check_body.proofs.Operation.{checked_definition}
+-- `check_body::check` meets its contract. The law wants a function as its argument, what each call of the closure finds, which `search`
+-- does not build.
+use Rattle.std.proofs.Common.{rules}
+use Rattle.check_body.proofs.Operation.{checked}
 use Rattle.check_body.proofs.check.Goals as goal
 
-pub returns-in-Ok : goal.returns-in-Ok
-returns-in-Ok c = checked_definition _ _ c.type_inv.definition c.if-message-lt2048.false c.in-Ok.ensures c.verdict-found.ensures c.answer_verdict.ensures
+pub returns : goal.returns
+returns c = checked _ _ c.type_inv.definition c.answer_tape.ensures (λ t v p. search rules)
