@@ -31,7 +31,9 @@ pub struct Answer {
 
 // How long each buffer is at the least, under the names of `include/neukolja.h` (document 01).
 const RESULT_SIZE: usize = 12296;
+
 const WORK_SIZE: usize = 65536;
+
 const MESSAGE_SIZE: usize = 2048;
 
 // Whether the three buffers are as long as document 01 asks.

@@ -9,7 +9,7 @@ ghost use Rattle.buffer.specs.Message.{Puts, so_far};
 ghost use Rattle.answer.specs.Matches.{answer_with};
 ghost use Rattle.check_library.specs.Rows.{verdict_at, row_of, put_in, put_from, checked_in, listing, listed_in, AnswersList};
 
-use answer::{Answer, answer_verdict, number_alone, refuse, refuse_number, refuse_without_work};
+use answer::{Answer, answer_tape, long_without_work, number_alone, refuse, refuse_without_work};
 use buffer::message::Message;
 use buffer::{value_bytes, zero_from};
 use check_body::verdict;
@@ -104,11 +104,11 @@ fn answer_list(tape: &Tape, res: &mut [u8], message: &mut [u8]) -> Answer
 
 // The operation: 1 for buffers that are too short, then the tape, then 10 and 11; else 0, and the list of the refused definitions. The
 // answer and every byte of both buffers are what the definition says, for every slice and all buffers.
-#[tactic(auto, using(crate::proofs::Operation::short_result, crate::proofs::Operation::short_message, crate::proofs::Operation::library_refused))]
+#[tactic(auto, using(crate::proofs::Operation::library_short, crate::proofs::Operation::library_refused))]
 pub fn check_library(registry: &[u8], res: &mut [u8], message: &mut [u8]) -> Answer
     ensures { answer_with result res.new [] message.new ≡ library_answer (length res.old) (length message.old) registry.now }
 {
-    if res.len() < 12296 || message.len() < 2048 {
+    if !long_without_work(res.len(), message.len()) {
         return refuse_without_work(numbers::SHORT_BUFFER, res, message);
     }
     match accept(registry, DEFINITIONS) {
@@ -137,21 +137,10 @@ fn check_registry(tape: &Tape, i: usize) -> Result<(), Refused>
 }
 
 // The operation: after the same refusals what the check of that definition alone returns, its message too; past the end 0.
-#[tactic(auto, using(crate::proofs::Operation::check_short, crate::proofs::Operation::check_refused))]
 pub fn check_at(registry: &[u8], index: u32, message: &mut [u8]) -> Answer
     ensures { answer_with result [] [] message.new ≡ check_at_answer (length message.old) registry.now index }
 {
-    if message.len() < 2048 {
-        return refuse_number(numbers::SHORT_BUFFER, message);
-    }
-    match accept(registry, DEFINITIONS) {
-        Err(fault) => refuse_number(fault.number(), message),
-        Ok(layout) => {
-            let tape = Tape {
-                bytes: registry,
-                layout,
-            };
-            answer_verdict(&tape, check_registry(&tape, index as usize), message)
-        }
-    }
+    answer_tape(registry, DEFINITIONS, message, |tape| {
+        check_registry(tape, index as usize)
+    })
 }

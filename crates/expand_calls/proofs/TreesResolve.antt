@@ -28,6 +28,7 @@ use Rattle.nodes.proofs.Entries.{is_expected}
 use Rattle.nodes.proofs.Placed.{parts_call, parts_def}
 use Rattle.tape.proofs.Roots.{few_params_lem as few-params-of, nesting_64}
 use Rattle.format.proofs.Tests.{and_left, and_right}
+use Rattle.registry.specs.declared.rows.Definition.{Definition}
 use Rattle.registry.specs.declared.rows.Row.{Row}
 use Rattle.registry.specs.Places.{key_of, end_of, get_at}
 use Rattle.registry.proofs.Standing.{Indexed, indexed_nil, indexed_cons, Ended, ended_nil, ended_cons, other_key}
@@ -78,7 +79,7 @@ module _ (R : Reads) where
         → deep_body node_weight d.body ≤ 64 → Resolved (Some (called d h d.body)) (some d)
 
   -- the macro that was found
-  abbrev macro_of : Option (Heading × Place × ℕ) → Option Macro
+  abbrev macro_of : Option Definition → Option Macro
   macro_of f = on_found None (macro_from R.registry R.definitions) f
 
   abbrev Looked : List Row → List MacroDef → Text → Type 0
@@ -97,7 +98,7 @@ module _ (R : Reads) where
       go : (b : Bool) → Looked rs ds name
           → Resolved
           (macro_of
-          (pick b (Some (def_head d i, params d i, end_of R.definitions rs)) (get_at R.registry R.definitions rs name)))
+          (pick b (Some (record { heading = def_head d i; params = params d i; end = end_of R.definitions rs })) (get_at R.registry R.definitions rs name)))
           (elim b [ true ↦ some d | false ↦ get ds name ])
       go true rest = rw (macro_from_lem d i e) (resolved d i (all_head few) (all_head deep))
       go false rest = rest
@@ -106,7 +107,7 @@ module _ (R : Reads) where
           → Resolved
           (macro_of
           (pick t
-          (pick (eq_text d.name name) (Some (def_head d i, params d i, end_of R.definitions rs))
+          (pick (eq_text d.name name) (Some (record { heading = def_head d i; params = params d i; end = end_of R.definitions rs }))
           (get_at R.registry R.definitions rs name))
           (get_at R.registry R.definitions rs name)))
           (elim (eq_text d.name name) [ true ↦ some d | false ↦ get ds name ])

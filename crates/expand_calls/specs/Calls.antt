@@ -18,6 +18,7 @@ use Rattle.messages.specs.Reason.{refused_at}
 use Rattle.messages.specs.declared.Reason.{Reason}
 use Rattle.messages.specs.declared.Reason.TheVariants.{UnknownMacro, CedarInCondition, CedarInValue, ValueAsCondition, ConditionAsValue}
 use Rattle.registry.specs.Places.{get_at}
+use Rattle.registry.specs.declared.rows.Definition.{Definition}
 use Rattle.walk_state.specs.Writing as one
 use Rattle.walk_state.specs.Writing.{state}
 use Rattle.subst_call.specs.Front.{on_macro, macro_from, refuse_too_large_in, call_in}
@@ -29,9 +30,9 @@ use Rattle.expand_calls.specs.Output.{Reads, Progress, progress, after, on_work}
 
 -- ------------------------------------------------------------------ the macro that is called
 
-abbrev pub on_found : {A : Type 0} → A → (Heading → Place → ℕ → A) → Option (Heading × Place × ℕ) → A
+abbrev pub on_found : {A : Type 0} → A → (Heading → Place → ℕ → A) → Option Definition → A
 on_found none f None = none
-on_found none f (Some (head, params, end)) = f head params end
+on_found none f (Some found) = f found.heading found.params found.end
 
 module _ (R : Reads) where
   unfoldable pub resolve_in : Heading → Option Macro

@@ -24,8 +24,8 @@ fn resolve(x: &Expansion, call: Heading) -> Option<Macro>
     ensures { result ≡ resolve_in (reads_of x.now) call }
 {
     let name = name_at(&x.condition, call.name);
-    let (head, params, end) = x.registry.get(name)?;
-    macro_from(&x.registry.tape, head, params, end)
+    let found = x.registry.get(name)?;
+    macro_from(&x.registry.tape, found.heading, found.params, found.end)
 }
 
 // 30, 31 or 32, unless the call names a condition macro. It stands beside `value_macro`, since their refusals are others: 32 or 33, and

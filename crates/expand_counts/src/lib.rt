@@ -4,7 +4,7 @@
 #![tactic(auto)]
 
 ghost use Rattle.std.specs.Prelude.{◌≡◌, ◌+◌, ◌≤◌};
-ghost use Rattle.format.specs.Tape.{is_text, text_width};
+ghost use Rattle.format.specs.Tape.{text_width};
 ghost use Rattle.tape.specs.Flat.{sum_in, weight_of};
 ghost use Rattle.registry.specs.Places.{key_of, origin};
 ghost use Rattle.expand_counts.specs.Counting.{name_behind_at, is_named, raised_at, passing, few, rest_of_term, over_at, brought_by, passed_at, counted_at, count_from, counted_in};
@@ -155,8 +155,8 @@ fn count_entry(index: &Index, tape: &Tape, p: Place, w: Passing, code: u8, count
     }
 }
 
-// The calls among the entries, up to a text that runs past the end. Code, value and text of an entry stand in three sections, so an index is
-// what they share.
+// The calls among the entries, up to a text that runs past the end. Code, value and text of an entry stand in three sections, so an
+// index is what they share.
 #[tactic(auto, using(crate::proofs::Steps::entries_start, crate::proofs::Steps::entry_taken, crate::proofs::Steps::entry_long, crate::proofs::Steps::entries_done))]
 fn count_entries(index: &Index, held: &HeldTape, counts: &mut [u32])
     ensures { counts.new ≡ count_from index.now.tape.bytes.now index.now.tape.layout index.now.rows.now held.now.tape.bytes.now held.now.tape.layout held.now.tape.layout.entries origin (passing 0 0) counts.old }

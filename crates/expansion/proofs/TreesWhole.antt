@@ -37,6 +37,7 @@ use Rattle.area.specs.Area.{Area, area_in, empty_at, fits_area}
 use Rattle.messages.specs.Reason.{refused_at, message_of}
 use Rattle.messages.specs.declared.Reason.TheVariants.{WithoutMessage, Reserved}
 use Rattle.answer.specs.Matches.{VerdictMatches, OutcomeMatches}
+use Rattle.registry.specs.declared.rows.Definition.{Definition}
 use Rattle.registry.specs.declared.rows.Row.{Row}
 use Rattle.registry.specs.Places.{duplicate_of, and_then_in, get_at, name_check, check_at, build_from_at, build_at, index_at}
 use Rattle.registry.proofs.Standing.{indexed_registry, ended_registry}
@@ -64,12 +65,12 @@ module _ (s : List ℕ) (l : Layout) where
   own_then (Ok tt) w h k = k
   own_then (Err f) w h k = h
 
-  own_duplicate : (h : Heading) (f : Option (Heading × Place × ℕ)) → Own (duplicate_of h f)
+  own_duplicate : (h : Heading) (f : Option Definition) → Own (duplicate_of h f)
   unfolding message_of
   own_duplicate h None = tt
-  own_duplicate h (Some (first, params, end)) = λ t t' c c'. refl
+  own_duplicate h (Some first) = λ t t' c c'. refl
 
-  own_name : (b : Bool) (h : Heading) (f : Option (Heading × Place × ℕ)) → Own (pick b (Err (refused_at h.span (Reserved h.name))) (duplicate_of h f))
+  own_name : (b : Bool) (h : Heading) (f : Option Definition) → Own (pick b (Err (refused_at h.span (Reserved h.name))) (duplicate_of h f))
   unfolding message_of
   own_name true h f = λ t t' c c'. refl
   own_name false h f = own_duplicate h f

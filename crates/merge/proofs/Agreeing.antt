@@ -27,11 +27,11 @@ use Rattle.tape.specs.declared.layout.Place.{Place}
 use Rattle.tape.proofs.Located.{past, past_at, Inside, inside_back, inside_next, inside_skip}
 use Rattle.tape.proofs.Trees.{passes_definition}
 use Rattle.nodes.specs.Node.{named, name_at}
-use Rattle.nodes.specs.declared.Heading.{Heading}
 use Rattle.nodes.specs.declared.Name.{Name}
 use Rattle.nodes.proofs.Entries.{is_entry, is_spelled}
 use Rattle.nodes.proofs.Placed.{heading_entries, parts_def}
-use Rattle.registry.specs.Places.{key_of, end_of, get_at}
+use Rattle.registry.specs.Places.{key_of, get_at}
+use Rattle.registry.specs.declared.rows.Definition.{Definition}
 use Rattle.registry.specs.declared.rows.Row.{Row}
 use Rattle.registry.proofs.Standing.{Indexed, indexed_nil, indexed_cons, Ended, ended_nil, ended_cons, other_key}
 use Rattle.merge.specs.Agree.{same_head, text_at, alike_at, on_alike, same_from, agree_at, against_found, compare_at}
@@ -118,15 +118,14 @@ agrees_is c x same =
     go false r = refl
 
 -- a definition whose head was read: what stands behind it, and where it ends
-record Stood (s : List ℕ) (l : Layout) (h : Heading) (params : Place) (end : ℕ) (d : MacroDef) : Type 0 where
-  its_count : h.count ≡ length d.params
-  stands : Inside s l params (behind d)
-  ends : end ≡ params.at + length (behind d)
+record Stood (s : List ℕ) (l : Layout) (f : Definition) (d : MacroDef) : Type 0 where
+  its_count : f.heading.count ≡ length d.params
+  stands : Inside s l f.params (behind d)
+  ends : f.end ≡ f.params.at + length (behind d)
 
-data FoundAs (s : List ℕ) (l : Layout) (name : Text) : Option (Heading × Place × ℕ) → Maybe MacroDef → Type 0 where
+data FoundAs (s : List ℕ) (l : Layout) (name : Text) : Option Definition → Maybe MacroDef → Type 0 where
   found_nothing : FoundAs s l name None none
-  found_whole : {h : Heading} {params : Place} {end : ℕ} {d : MacroDef} → Stood s l h params end d → d.name ≡ name
-      → FoundAs s l name (Some (h, params, end)) (some d)
+  found_whole : {f : Definition} {d : MacroDef} → Stood s l f d → d.name ≡ name → FoundAs s l name (Some f) (some d)
 
 -- what a name finds, as `Registry::get` does
 get_whole : {s : List ℕ} {l : Layout} {rs : List Row} {ds : List MacroDef} → Indexed s l rs ds → Ended s l rs ds → (name : Text)
@@ -143,15 +142,13 @@ get_whole {s} {l} (indexed_cons {r = r} {rs = rs} {d = d} {ds = ds} i k h) (ende
       ends = e ∙ past_at (behind d) (past (head_of d) r.place);
     }))
   where
-    go : (b : Bool) → eq_text d.name name ≡ b → {head : Heading} {params : Place} → FoundAs s l name (get_at s l rs name) (get ds name)
-        → Stood s l head params (end_of l rs) d
-        → FoundAs s l name (pick b (Some (head, params, end_of l rs)) (get_at s l rs name)) (elim b [ true ↦ some d | false ↦ get ds name ])
+    go : (b : Bool) → eq_text d.name name ≡ b → {f : Definition} → FoundAs s l name (get_at s l rs name) (get ds name) → Stood s l f d
+        → FoundAs s l name (pick b (Some f) (get_at s l rs name)) (elim b [ true ↦ some d | false ↦ get ds name ])
     go true q rest f = found_whole f (text_equal d.name name (from_true q))
     go false q rest f = rest
 
-    by_key : (t : Bool) → eqb r.key (key_of name) ≡ t → {head : Heading} {params : Place} → FoundAs s l name (get_at s l rs name) (get ds name)
-        → Stood s l head params (end_of l rs) d
-        → FoundAs s l name (pick t (pick (eq_text d.name name) (Some (head, params, end_of l rs)) (get_at s l rs name)) (get_at s l rs name))
+    by_key : (t : Bool) → eqb r.key (key_of name) ≡ t → {f : Definition} → FoundAs s l name (get_at s l rs name) (get ds name) → Stood s l f d
+        → FoundAs s l name (pick t (pick (eq_text d.name name) (Some f) (get_at s l rs name)) (get_at s l rs name))
         (elim (eq_text d.name name) [ true ↦ some d | false ↦ get ds name ])
     by_key true q rest f = go (eq_text d.name name) refl rest f
     by_key false q rest f = rw (other_key r d.name name k q) rest
@@ -163,12 +160,11 @@ compared_with none x q = New q
 compared_with (some c) x q = pick (agrees c x) (Known q) (Differs x.span)
 
 module _ {s : List ℕ} {d : Layout} {t : List ℕ} {e : Layout} where
-  agree_is : {g h : Heading} {from params : Place} {end to : ℕ} {c x : MacroDef} → Stood s d g from end c → Stood t e h params to x
-      → c.name ≡ x.name → agree_at s d g from end t e h params to ≡ agrees c x
+  agree_is : {g h : Definition} {c x : MacroDef} → Stood s d g c → Stood t e h x → c.name ≡ x.name → agree_at s d g t e h ≡ agrees c x
   unfolding agree_at
-  agree_is {g} {h} {from} {params} {end} {to} {c} {x} f k same =
-      let n : end - from.at ≡ length (behind c) = omega (arith, f.ends) in
-      let m : to - params.at ≡ length (behind x) = omega (arith, k.ends) in
+  agree_is {g} {h} {c} {x} f k same =
+      let n : g.end - g.params.at ≡ length (behind c) = omega (arith, f.ends) in
+      let m : h.end - h.params.at ≡ length (behind x) = omega (arith, k.ends) in
       rw (f.its_count, k.its_count)
       (ap (λ (b : Bool). pick (eqb (length c.params) (length x.params)) b false)
       (runs_agree (behind c) (behind x) f.stands k.stands n m)
@@ -188,8 +184,8 @@ module _ {s : List ℕ} {d : Layout} {t : List ℕ} {e : Layout} where
       })
       (get_whole indexed ended x.name))
     where
-      go : {name : Name} {params : Place} {f : Option (Heading × Place × ℕ)} {o : Maybe MacroDef}
-          → Stood t e (record { span = x.span; name = name; count = length x.params }) params (past (flat_def x) p).at x
+      go : {name : Name} {params : Place} {f : Option Definition} {o : Maybe MacroDef}
+          → Stood t e (record { heading = record { span = x.span; name = name; count = length x.params }; params = params; end = (past (flat_def x) p).at }) x
           → FoundAs s d x.name f o
           → against_found s d t e (record { span = x.span; name = name; count = length x.params }) params (past (flat_def x) p) f
           ≡ compared_with o x (past (flat_def x) p)

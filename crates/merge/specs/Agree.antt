@@ -10,6 +10,7 @@ use Rattle.tape.specs.Pick.{pick}
 use Rattle.tape.specs.Scan.{skip_at}
 use Rattle.nodes.specs.Node.{on_entry, on_place, on_heading, entry_at, heading_at, named, name_at}
 use Rattle.registry.specs.Places.{get_at}
+use Rattle.registry.specs.declared.rows.Definition.{Definition}
 use Rattle.registry.specs.declared.rows.Row.{Row}
 use Rattle.tape.specs.declared.layout.Layout.{Layout}
 use Rattle.tape.specs.declared.layout.Place.{Place}
@@ -48,17 +49,17 @@ unfoldable pub same_from : List ℕ → Layout → List ℕ → Layout → ℕ �
 same_from s d t e zero p q = true
 same_from s d t e (suc n) p q = on_alike false (same_from s d t e n) (alike_at s d p t e q)
 
--- what stands behind two heads of one name: from a place on up to entry `end`, and on the other tape up to entry `to`
-unfoldable pub agree_at : List ℕ → Layout → Heading → Place → ℕ → List ℕ → Layout → Heading → Place → ℕ → Bool
-agree_at s d g from end t e h other to =
-    pick (eqb g.count h.count)
-    (pick (eqb (end - from.at) (to - other.at)) (same_from s d t e (end - from.at) from other) false) false
+-- what stands behind two heads of one name, up to where the definitions end
+unfoldable pub agree_at : List ℕ → Layout → Definition → List ℕ → Layout → Definition → Bool
+agree_at s d f t e g =
+    pick (eqb f.heading.count g.heading.count)
+    (pick (eqb (f.end - f.params.at) (g.end - g.params.at)) (same_from s d t e (f.end - f.params.at) f.params g.params) false) false
 
 -- what was found on the first tape, against the definition of the second whose head is h, and which ends at `next`
-abbrev pub against_found : List ℕ → Layout → List ℕ → Layout → Heading → Place → Place → Option (Heading × Place × ℕ) → Compared
+abbrev pub against_found : List ℕ → Layout → List ℕ → Layout → Heading → Place → Place → Option Definition → Compared
 against_found s d t e h params next None = New next
-against_found s d t e h params next (Some (g, from, end)) =
-    pick (agree_at s d g from end t e h params next.at) (Known next) (Differs h.span)
+against_found s d t e h params next (Some found) =
+    pick (agree_at s d found t e (record { heading = h; params = params; end = next.at })) (Known next) (Differs h.span)
 
 unfoldable pub compare_at : List ℕ → Layout → List Row → List ℕ → Layout → Place → Compared
 compare_at s d rows t e p =

@@ -6,8 +6,8 @@ ghost use Rattle.merge.specs.Agree.{same_head, text_at, alike_at, same_from, agr
 use grammar::code;
 use grammar::codes::DEFINITION;
 use grammar::kind::text_width;
-use nodes::{Heading, Name, entry, name_at, read_heading};
-use registry::Index;
+use nodes::{Name, entry, name_at, read_heading};
+use registry::{Definition, Index};
 use tape::layout::{Place, Tape};
 use tape::scan::skip;
 
@@ -89,23 +89,16 @@ fn same_entries(s: &Tape, from: Place, t: &Tape, other: Place, n: usize) -> bool
     true
 }
 
-// Whether two definitions of one name agree, whose heads were read: what stands behind the heads up to `end` on the first tape, and up
-// to `to` on the second. The heads themselves are a span, the name, and the number of parameters.
+// Whether two definitions of one name agree: what stands behind their headings up to their ends. The headings themselves are a span, the
+// name, and the number of parameters.
 #[tactic(auto, unfolding(crate::specs::Agree::agree_at))]
-fn agree(
-    s: &Tape,
-    g: Heading,
-    from: Place,
-    end: usize,
-    t: &Tape,
-    h: Heading,
-    other: Place,
-    to: usize,
-) -> bool
-    ensures { result ≡ agree_at s.now.bytes.now s.now.layout g from end t.now.bytes.now t.now.layout h other to }
+fn agree(s: &Tape, known: Definition, t: &Tape, given: Definition) -> bool
+    ensures { result ≡ agree_at s.now.bytes.now s.now.layout known t.now.bytes.now t.now.layout given }
 {
-    let n = end.saturating_sub(from.at);
-    g.count == h.count && n == to.saturating_sub(other.at) && same_entries(s, from, t, other, n)
+    let n = known.end.saturating_sub(known.params.at);
+    known.heading.count == given.heading.count
+        && n == given.end.saturating_sub(given.params.at)
+        && same_entries(s, known.params, t, given.params, n)
 }
 
 // The definition at a place of the second registry, against those of the first. An accepted tape has a definition there.
@@ -113,19 +106,24 @@ fn agree(
 pub fn compare(first: &Index, t: &Tape, p: Place) -> Compared
     ensures { result ≡ compare_at first.now.tape.bytes.now first.now.tape.layout first.now.rows.now t.now.bytes.now t.now.layout p }
 {
-    let Ok((h, params)) = read_heading(t, p, code::DEFINITION) else {
+    let Ok((heading, params)) = read_heading(t, p, code::DEFINITION) else {
         return Compared::Differs(0);
     };
     let Some(next) = skip(t, p, DEFINITION) else {
         return Compared::Differs(0);
     };
-    match first.get(name_at(t, h.name)) {
+    let given = Definition {
+        heading,
+        params,
+        end: next.at,
+    };
+    match first.get(name_at(t, heading.name)) {
         None => Compared::New(next),
-        Some((g, from, end)) => {
-            if agree(&first.tape, g, from, end, t, h, params, next.at) {
+        Some(known) => {
+            if agree(&first.tape, known, t, given) {
                 Compared::Known(next)
             } else {
-                Compared::Differs(h.span)
+                Compared::Differs(heading.span)
             }
         }
     }

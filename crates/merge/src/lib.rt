@@ -2,7 +2,7 @@
 // first lacks. A name that both have is kept once, as the first has it, if the two agree in everything but spans; 51 if they do not.
 #![tactic(auto)]
 
-ghost use Rattle.std.specs.Prelude.{[], ◌≡◌, ◌&&◌, leb, length, replicate};
+ghost use Rattle.std.specs.Prelude.{[], ◌≡◌, length, replicate};
 ghost use Rattle.definition.specs.Merge.{merge_answer};
 ghost use Rattle.answer.specs.Matches.{answer_with};
 ghost use Rattle.de_morgan.specs.Rewritten.{rewritten_in, rewritten_layout};
@@ -10,7 +10,7 @@ ghost use Rattle.merge.specs.Ends.{AnswersMerging, EndsMerge};
 
 use crate::join::{Refusing, merge_named};
 use answer::tapes::accept_two;
-use answer::{Answer, number_alone, refuse, refuse_without_work};
+use answer::{Answer, long_without_work, number_alone, refuse, refuse_without_work};
 use area::{Writer, finish};
 use de_morgan::{rewritten_in, without_or};
 use grammar::codes::DEFINITIONS;
@@ -18,13 +18,6 @@ use tape::layout::Tape;
 
 mod agree;
 mod join;
-
-// Whether the two buffers are as long as document 01 asks.
-fn long_enough(res: usize, message: usize) -> bool
-    ensures { result ≡ (leb 12296 res && leb 2048 message) }
-{
-    12296 <= res && 2048 <= message
-}
 
 // The answer of what a merge came to, whose registry stands in an area.
 fn answer_merging(
@@ -73,7 +66,7 @@ fn merge_rewritten(first: &Tape, second: &Tape, res: &mut [u8], message: &mut [u
 pub fn merge(first: &[u8], second: &[u8], res: &mut [u8], message: &mut [u8]) -> Answer
     ensures { answer_with result res.new [] message.new ≡ merge_answer (length res.old) (length message.old) first.now second.now }
 {
-    if !long_enough(res.len(), message.len()) {
+    if !long_without_work(res.len(), message.len()) {
         return refuse_without_work(numbers::SHORT_BUFFER, res, message);
     }
     match accept_two(first, DEFINITIONS, second, DEFINITIONS) {

@@ -8,8 +8,7 @@ use mathlib.Core.Path.{◌≡◌, refl, sym, ap, ◌∙◌}
 use mathlib.Core.List.{List, []}
 use mathlib.Core.Bool.{Bool, true, false}
 use mathlib.Core.Option.{Option, none, some}
-use borrow.Author.Tests.{le-leb, lt-leb}
-use lib.Dec.{eqb, eqb→eq}
+use lib.Dec.{leb, leb→le, eqb, eqb→eq}
 use lib.ListN.{length, replicate, length-replicate}
 use Rattle.format.specs.Entry.{Entry, encode, text_of}
 use Rattle.format.specs.Older.{older_entries, fits_older, Kind, TreeOf, root_of, kind_of, first_code}
@@ -69,9 +68,9 @@ module _ (s : List ℕ) (l : Layout) (before : List ℕ) {fits : Bool} {after : 
 
 -- ------------------------------------------------------------------ a short buffer, and a tape that is refused
 
-pub short : (n : ℕ) (s : List ℕ) {a : Answer} → n < 12296 → a ≡ ended (result_alone n) (number_alone 1) → a ≡ older_answer n s
+pub short : (n : ℕ) (s : List ℕ) {a : Answer} → leb 12296 n ≡ false → a ≡ ended (result_alone n) (number_alone 1) → a ≡ older_answer n s
 unfolding older_answer
-short n s h e = ends_short encode (result_alone n) (older_tape s) (lt-leb 12296 n h) e
+short n s h e = ends_short encode (result_alone n) (older_tape s) h e
 
 -- the root that was asked for is the one that the first code tells
 pub sort_told : (s : List ℕ) {first sort : ℕ} {x : Result Layout Fault} → first ≡ first_code s → sort ≡ sort_of (kind_of first) → accept_of s sort ≡ x
@@ -91,16 +90,16 @@ module _ (s : List ℕ) (bytes : Bytes s) where
   refused_of_lem f (some k) e =
       read_rewritten (rewrites_of k) (lawful_of k) s bytes _ ∙ refused_tape (root_of k) (root_of_lem k) s _ e
 
-  pub refused : (n : ℕ) {f : Fault} {a : Answer} → 12296 ≤ n → accept_of s (sort_of (kind_of (first_code s))) ≡ Err f
+  pub refused : (n : ℕ) {f : Fault} {a : Answer} → leb 12296 n ≡ true → accept_of s (sort_of (kind_of (first_code s))) ≡ Err f
       → a ≡ ended (result_alone n) (number_alone (fault_number f)) → a ≡ older_answer n s
   unfolding older_answer older_tape
   refused n {f} long e k =
-      ends_refused encode (result_alone n) (older_tape s) (fault_number f) (le-leb 12296 n long) (refused_of_lem f (kind_of (first_code s)) e) k
+      ends_refused encode (result_alone n) (older_tape s) (fault_number f) long (refused_of_lem f (kind_of (first_code s)) e) k
 
   -- ------------------------------------------------------------------ a tape that was read
 
   -- and its tree stands at a layout, of its own slice or of another
-  module _ (n : ℕ) (long : 12296 ≤ n) (k : Kind) (first : kind_of (first_code s) ≡ some k) (x : TreeOf k)
+  module _ (n : ℕ) (long : leb 12296 n ≡ true) (k : Kind) (first : kind_of (first_code s) ≡ some k) (x : TreeOf k)
       (r : read (root_of k) s ≡ Reading.accepted x) where
     abbrev es : List Entry
     es = (root_of k).flat x
@@ -112,7 +111,7 @@ module _ (s : List ℕ) (bytes : Bytes s) where
     room : length (encode (older_entries es)) ≤ n
     room =
         let most = fitting (length es) (length (text_of es)) (read_on_tape (root_of k) (rewrites_of k) (lawful_of k) s bytes x r).range.sizes in
-        omega (arith, most.0, most.1, length_encode (older_entries es), older_length es, ap length (older_text es))
+        omega (arith, leb→le 12296 n (from_true long), most.0, most.1, length_encode (older_entries es), older_length es, ap length (older_text es))
 
     answered : {t : List ℕ} {m : Layout} {a : Answer} → Inside t m (place 0 0) es → m.entries ≡ length es → m.size ≡ length (text_of es)
         → AnswersOlder t m n a → a ≡ older_answer n s
@@ -122,7 +121,7 @@ module _ (s : List ℕ) (bytes : Bytes s) where
         let written : answer (λ (t : List ℕ). t) (result_alone n) (unless_out (fits_in t m) (older_tape_in t m))
         ≡ answer encode (result_alone n) (unless_out (fits_older es) (older_entries es)) =
         rw (tape, fits_are i entries size) (encoded_answer n (fits_older es) (older_entries es)) in
-        rw (le-leb 12296 n long, outcome) (h (rw tape room) ∙ written)
+        rw (long, outcome) (h (rw tape room) ∙ written)
 
   -- ------------------------------------------------------------------ a tape that was accepted
 
@@ -151,7 +150,7 @@ module _ (s : List ℕ) (bytes : Bytes s) where
       (read_as root (rewrites_of t.kind) (lawful_of t.kind) s bytes).one_scan ∙ ap (map_reading (rewritten root)) t.accepted.reading
 
   -- without an Or it is its own rewriting
-  pub given : (n : ℕ) {l : Layout} {a : Answer} → 12296 ≤ n → accept_of s (sort_of (kind_of (first_code s))) ≡ Ok l → eqb (ors_in s l) 0 ≡ true
+  pub given : (n : ℕ) {l : Layout} {a : Answer} → leb 12296 n ≡ true → accept_of s (sort_of (kind_of (first_code s))) ≡ Ok l → eqb (ors_in s l) 0 ≡ true
       → AnswersOlder s l n a → a ≡ older_answer n s
   given n {l} long e without h =
       let t = told e in
@@ -162,7 +161,7 @@ module _ (s : List ℕ) (bytes : Bytes s) where
       answered n long k t.first t.tree (was_read t ∙ ap Reading.accepted same) (accepted_inside (root_of_lem k) t.accepted)
       (ap (λ (m : Layout). m.entries) t.accepted.layout_is) (ap (λ (m : Layout). m.size) t.accepted.layout_is) h
 
-  pub given_or : (n : ℕ) {l : Layout} {a : Answer} → 12296 ≤ n → accept_of s (sort_of (kind_of (first_code s))) ≡ Ok l
+  pub given_or : (n : ℕ) {l : Layout} {a : Answer} → leb 12296 n ≡ true → accept_of s (sort_of (kind_of (first_code s))) ≡ Ok l
       → AnswersOlder (rewritten_in s l (replicate 12296 0)) (rewritten_layout s l) n a → a ≡ older_answer n s
   given_or n long e h =
       let t = told e in

@@ -9,7 +9,7 @@ ghost use Rattle.de_morgan.specs.Rewritten.{rewritten_in, rewritten_layout};
 ghost use Rattle.answer.specs.Matches.{answer_with};
 ghost use Rattle.older.specs.Roots.{sort_of, AnswersOlder};
 
-use answer::{Answer, refuse_result, result_written};
+use answer::{Answer, long_result, refuse_result, result_written};
 use de_morgan::{none_on, rewritten_in};
 use grammar::code;
 use grammar::codes::{CALL, CONDITION, DEFINITION, DEFINITIONS, TERM};
@@ -65,7 +65,7 @@ fn older_rewritten(tape: &Tape, res: &mut [u8]) -> Answer
 pub fn older(bytes: &[u8], res: &mut [u8]) -> Answer
     ensures { answer_with result res.new [] [] ≡ older_answer (length res.old) bytes.now }
 {
-    if res.len() < 12296 {
+    if !long_result(res.len()) {
         return refuse_result(numbers::SHORT_BUFFER, res);
     }
     match accept(bytes, root_sort(first_code(bytes))) {

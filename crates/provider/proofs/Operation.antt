@@ -8,7 +8,7 @@ use mathlib.Core.Path.{◌≡◌, refl, sym, ap, ◌∙◌, subst}
 use mathlib.Core.List.{List, [], map}
 use mathlib.Core.Bool.{Bool, true, false}
 use mathlib.Core.Option.{Option as Maybe, none, some}
-use borrow.Author.Tests.{le-leb, lt-leb}
+use lib.Dec.{leb, leb→le}
 use lib.ListN.{length, drop, length-map, length-take}
 use lib.Seq.{sets}
 use Rattle.format.specs.Ast.{Term}
@@ -21,6 +21,7 @@ use Rattle.format.proofs.Accepted.{InRange, accepted_on_tape}
 use Rattle.format.proofs.Encodes.{fitting, length_encode}
 use Rattle.format.proofs.Exact.{Lawful, lawful_term, lawful_argument, lawful_provider}
 use Rattle.format.proofs.LastYear.{rewrites_term}
+use Rattle.format.proofs.Tests.{from_true}
 use Rattle.definition.specs.Answers.{Answer, padded, answer, number_alone, reading, open_answers}
 use Rattle.definition.specs.Older.{result_alone}
 use Rattle.definition.specs.Outcome.{Outcome, open_outcome}
@@ -71,22 +72,22 @@ module _ (way : Way) (s : List ℕ) (l : Layout) (before : List ℕ) {codes : Li
 -- ------------------------------------------------------------------ a tape turned, as the definition has it
 
 module _ {A B : Type 0} (taken : List ℕ → Reading A) (f : A → Maybe B) (flat : B → List Entry) (number n : ℕ) (s : List ℕ) {a : Answer} where
-  turning_short : n < 12296 → a ≡ ended (result_alone n) (number_alone 1) → a ≡ turning_answer taken f flat number n s
+  turning_short : leb 12296 n ≡ false → a ≡ ended (result_alone n) (number_alone 1) → a ≡ turning_answer taken f flat number n s
   unfolding turning_answer
   turning_short h e =
-      ends_short (λ (b : B). encode (flat b)) (result_alone n) (reading (taken s) (λ a. turned number (f a))) (lt-leb 12296 n h) e
+      ends_short (λ (b : B). encode (flat b)) (result_alone n) (reading (taken s) (λ a. turned number (f a))) h e
 
-  turning_refused : (m : ℕ) → 12296 ≤ n → reading (taken s) (λ a. turned number (f a)) ≡ number_alone m → a ≡ ended (result_alone n) (number_alone m)
+  turning_refused : (m : ℕ) → leb 12296 n ≡ true → reading (taken s) (λ a. turned number (f a)) ≡ number_alone m → a ≡ ended (result_alone n) (number_alone m)
       → a ≡ turning_answer taken f flat number n s
   unfolding turning_answer
   turning_refused m h q e =
-      ends_refused (λ (b : B). encode (flat b)) (result_alone n) (reading (taken s) (λ a. turned number (f a))) m (le-leb 12296 n h) q e
+      ends_refused (λ (b : B). encode (flat b)) (result_alone n) (reading (taken s) (λ a. turned number (f a))) m h q e
 
-  turning_done : 12296 ≤ n → (x : A) → reading (taken s) (λ a. turned number (f a)) ≡ turned number (f x) → {t : Maybe (List ℕ)}
+  turning_done : leb 12296 n ≡ true → (x : A) → reading (taken s) (λ a. turned number (f a)) ≡ turned number (f x) → {t : Maybe (List ℕ)}
       → t ≡ turn (λ (b : B). encode (flat b)) (f x) → a ≡ answer (λ (t : List ℕ). t) (result_alone n) (turned number t)
       → a ≡ turning_answer taken f flat number n s
   unfolding turning_answer turn turned answer number_alone
-  turning_done h x q p e = e ∙ rw (le-leb 12296 n h, q, p) (go (f x))
+  turning_done h x q p e = e ∙ rw (h, q, p) (go (f x))
     where
       go : (o : Maybe B) → answer (λ (t : List ℕ). t) (result_alone n) (turned number (turn (λ (b : B). encode (flat b)) o))
           ≡ answer (λ (b : B). encode (flat b)) (result_alone n) (turned number o)
@@ -154,11 +155,11 @@ module _ (s : List ℕ) (bytes : Bytes s) {a : Answer} where
 -- ------------------------------------------------------------------ argument to term
 
 module _ (n : ℕ) (s : List ℕ) {a : Answer} where
-  pub argument_short : n < 12296 → a ≡ ended (result_alone n) (number_alone 1) → a ≡ argument_to_term_answer n s
+  pub argument_short : leb 12296 n ≡ false → a ≡ ended (result_alone n) (number_alone 1) → a ≡ argument_to_term_answer n s
   unfolding argument_to_term_answer
   argument_short = turning_short (accept argument_root) argument_to_term flat_term 56 n s
 
-  module _ (bytes : Bytes s) (long : 12296 ≤ n) where
+  module _ (bytes : Bytes s) (long : leb 12296 n ≡ true) where
     pub argument_refused : {f : Fault} → accept_by provider_grammar 64 s sort.argument ≡ Err f → a ≡ ended (result_alone n) (number_alone (fault_number f))
         → a ≡ argument_to_term_answer n s
     unfolding argument_to_term_answer
@@ -174,15 +175,15 @@ module _ (n : ℕ) (s : List ℕ) {a : Answer} where
         turning_done (accept argument_root) argument_to_term flat_term 56 n s long x.0 (rw x.1 refl)
         (subst (λ (t : List ℕ). turned_in ToTerm t l ≡ turn (λ (t : Term). encode (flat_term t)) (argument_to_term x.0)) g.encoded
         (argument_turned x.0 l g.codes_at g.counted))
-        (h g.inside (omega (arith, g.short)))
+        (h g.inside (omega (arith, leb→le 12296 n (from_true long), g.short)))
 
   -- ------------------------------------------------------------------ term to argument
 
-  pub term_short : n < 12296 → a ≡ ended (result_alone n) (number_alone 1) → a ≡ term_to_argument_answer n s
+  pub term_short : leb 12296 n ≡ false → a ≡ ended (result_alone n) (number_alone 1) → a ≡ term_to_argument_answer n s
   unfolding term_to_argument_answer
   term_short = turning_short (read term_root) term_to_argument flat_argument 58 n s
 
-  module _ (bytes : Bytes s) (long : 12296 ≤ n) where
+  module _ (bytes : Bytes s) (long : leb 12296 n ≡ true) where
     pub term_refused : {f : Fault} → accept_of s term ≡ Err f → a ≡ ended (result_alone n) (number_alone (fault_number f)) → a ≡ term_to_argument_answer n s
     unfolding term_to_argument_answer
     term_refused {f} e =
@@ -200,4 +201,4 @@ module _ (n : ℕ) (s : List ℕ) {a : Answer} where
         ∙ rw x.1.reading (ap (turned 58) (argument_of de_morgan x.0)))
         (subst (λ (t : List ℕ). turned_in ToArgument t l ≡ turn (λ (a : Arg). encode (flat_argument a)) (term_to_argument x.0)) g.encoded
         (term_turned x.0 l g.codes_at g.counted))
-        (h g.inside (omega (arith, g.short)))
+        (h g.inside (omega (arith, leb→le 12296 n (from_true long), g.short)))

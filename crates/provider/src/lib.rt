@@ -9,7 +9,7 @@ ghost use Rattle.tape.specs.Accept.{accept_by};
 ghost use Rattle.answer.specs.Matches.{answer_with};
 ghost use Rattle.provider.specs.Turned.{term_code, argument_code, turned_code, turned_or_0, any_lost, lost_number, turned_on, AnswersTurned};
 
-use answer::{Answer, refuse_result, result_written};
+use answer::{Answer, long_result, refuse_result, result_written};
 use buffer::{write, write_each, zero_from};
 use grammar::code;
 use grammar::codes::TERM;
@@ -130,7 +130,7 @@ pub fn provider(bytes: &[u8]) -> Answer
 pub fn argument_to_term(bytes: &[u8], res: &mut [u8]) -> Answer
     ensures { answer_with result res.new [] [] ≡ argument_to_term_answer (length res.old) bytes.now }
 {
-    if res.len() < 12296 {
+    if !long_result(res.len()) {
         return refuse_result(numbers::SHORT_BUFFER, res);
     }
     match accept_provider(bytes, ARGUMENT) {
@@ -145,7 +145,7 @@ pub fn argument_to_term(bytes: &[u8], res: &mut [u8]) -> Answer
 pub fn term_to_argument(bytes: &[u8], res: &mut [u8]) -> Answer
     ensures { answer_with result res.new [] [] ≡ term_to_argument_answer (length res.old) bytes.now }
 {
-    if res.len() < 12296 {
+    if !long_result(res.len()) {
         return refuse_result(numbers::SHORT_BUFFER, res);
     }
     match accept(bytes, TERM) {

@@ -33,6 +33,7 @@ use Rattle.tape.proofs.Runs.{place, run_code, run_value}
 use Rattle.nodes.proofs.Entries.{is_spelled}
 use Rattle.nodes.proofs.Placed.{parts_def, parts_defs}
 use Rattle.registry.specs.Places.{key_of, end_of, cons_if, key_at, rows_from, index_at, get_at}
+use Rattle.registry.specs.declared.rows.Definition.{Definition}
 use Rattle.registry.specs.declared.rows.Row.{Row}
 use Rattle.tape.proofs.Holding.{holding}
 use Rattle.registry.proofs.Codes.{Inner, inner_params, inner_body}
@@ -175,9 +176,9 @@ module _ (s : List ℕ) (l : Layout) where
     pub params_stand : Inside s l params (flat_params d.params)
     pub body_stands : Inside s l (past (flat_params d.params) params) (flat_body d.body)
 
-  pub data Finds : Option (Heading × Place × ℕ) → Maybe MacroDef → Type 0 where
+  pub data Finds : Option Definition → Maybe MacroDef → Type 0 where
     finds_nothing : Finds None none
-    finds : {h : Heading} {params : Place} {end : ℕ} {d : MacroDef} → Defined h params d → Finds (Some (h, params, end)) (some d)
+    finds : {found : Definition} {d : MacroDef} → Defined found.heading found.params d → Finds (Some found) (some d)
 
 -- names with other keys are other names
 pub other_key : (r : Row) (a b : Text) → r.key ≡ key_of a → eqb r.key (key_of b) ≡ false → eq_text a b ≡ false
@@ -202,13 +203,13 @@ module _ {s : List ℕ} {l : Layout} where
       }))
     where
       go : (b : Bool) {head : Heading} {params : Place} → Finds s l (get_at s l rs name) (get ds name) → Defined s l head params d
-          → Finds s l (pick b (Some (head, params, end_of l rs)) (get_at s l rs name)) (elim b [ true ↦ some d | false ↦ get ds name ])
+          → Finds s l (pick b (Some (record { heading = head; params = params; end = end_of l rs })) (get_at s l rs name)) (elim b [ true ↦ some d | false ↦ get ds name ])
       go true rest f = finds f
       go false rest f = rest
 
       by_key : (t : Bool) → eqb r.key (key_of name) ≡ t → {head : Heading} {params : Place} → Finds s l (get_at s l rs name) (get ds name)
           → Defined s l head params d
-          → Finds s l (pick t (pick (eq_text d.name name) (Some (head, params, end_of l rs)) (get_at s l rs name)) (get_at s l rs name))
+          → Finds s l (pick t (pick (eq_text d.name name) (Some (record { heading = head; params = params; end = end_of l rs })) (get_at s l rs name)) (get_at s l rs name))
           (elim (eq_text d.name name) [ true ↦ some d | false ↦ get ds name ])
       by_key true e rest f = go (eq_text d.name name) rest f
       by_key false e rest f = rw (other_key r d.name name k e) rest

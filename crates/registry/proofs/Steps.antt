@@ -32,6 +32,7 @@ use Rattle.nodes.specs.declared.Heading.{Heading}
 use Rattle.messages.specs.Reason.{without_message}
 use Rattle.messages.specs.declared.Refused.{Refused}
 use Rattle.registry.specs.Places.{origin, key_from, key_of, end_of, cons_if, key_at, rows_from, get_at, and_then_in, check_at, build_from_at, build_at}
+use Rattle.registry.specs.declared.rows.Definition.{Definition}
 use Rattle.registry.specs.declared.rows.Row.{Row}
 
 -- what stands behind the end of a table
@@ -145,7 +146,7 @@ read_ok {x = Ok r} {read} e = ap (λ o. Ok (heading_or read o)) e
 read_ok {x = Err f} e = absurd cc
 
 module _ (s : List ℕ) (l : Layout) (name : Text) (rows : List Row) where
-  module _ (i : ℕ) {g : Option (Heading × Place × ℕ)} (inv : get_at s l (drop i rows) name ≡ g) where
+  module _ (i : ℕ) {g : Option Definition} (inv : get_at s l (drop i rows) name ≡ g) where
     pub get_done : length rows ≤ i → None ≡ g
     unfolding get_at
     get_done h = rw (drop_of_length-le rows {i = i} h) at inv
@@ -166,10 +167,10 @@ module _ (s : List ℕ) (l : Layout) (name : Text) (rows : List Row) where
       -- a row with the name's key
       module _ {x : Result (Heading × Place) Refusal} (j : (get_or rows i empty_row).key ≡ key) (e : x ≡ heading_at s l (get_or rows i empty_row).place 60) where
         -- by its heading, and then by the rest
-        by_heading : Result (Heading × Place) Refusal → Option (Heading × Place × ℕ)
+        by_heading : Result (Heading × Place) Refusal → Option Definition
         by_heading z =
             on_heading None
-            (λ head params. pick (eq_text (name_at s l head.name) name) (Some (head, params, end_of l (drop (i + 1) rows))) (get_at s l (drop (i + 1) rows) name))
+            (λ head params. pick (eq_text (name_at s l head.name) name) (Some (record { heading = head; params = params; end = end_of l (drop (i + 1) rows) })) (get_at s l (drop (i + 1) rows) name))
             z
 
         same_key : by_heading x ≡ g
@@ -186,10 +187,10 @@ module _ (s : List ℕ) (l : Layout) (name : Text) (rows : List Row) where
           by_heading_ok = rw (← (read_ok (sym r ∙ found))) same_key
 
           pub get_found : {last : ℕ} → true ≡ pointwise nat_eq u name → last ≡ end_of l (take (length rows - (i + 1)) (drop (i + 1) rows))
-              → Some (head, params, last) ≡ g
+              → Some (record { heading = head; params = params; end = last }) ≡ g
           unfolding by_heading
           get_found t z =
-              ap (λ (n : ℕ). Some (head, params, n)) (z ∙ ap (end_of l) (take_rest rows (i + 1)))
+              ap (λ (n : ℕ). Some (record { heading = head; params = params; end = n })) (z ∙ ap (end_of l) (take_rest rows (i + 1)))
               ∙ (rw (← v, ← (equal_texts u name), ← t) at by_heading_ok)
 
           pub get_next : false ≡ pointwise nat_eq u name → get_at s l (drop (i + 1) rows) name ≡ g

@@ -1,7 +1,6 @@
 -- Over the places where a registry's definitions stand, the names are judged as `Registry::build` judges the definitions.
 -- Assumes nothing.
 use Rattle.messages.specs.declared.Refused.{Refused}
-use Rattle.tape.specs.declared.layout.Place.{Place}
 use Rattle.std.proofs.Common.{Result, Err, Option}
 use Prim.Native.Nat.{ℕ}
 use mathlib.Core.Path.{◌≡◌, refl, sym, ap, ◌∙◌}
@@ -30,6 +29,7 @@ use Rattle.messages.specs.declared.Reason.TheVariants.{Reserved}
 use Rattle.message_parts.proofs.Order.{eq_refl}
 use Rattle.answer.specs.Matches.{VerdictMatches}
 use Rattle.registry.specs.Places.{duplicate_of, and_then_in, check_at, build_from_at, build_at}
+use Rattle.registry.specs.declared.rows.Definition.{Definition}
 use Rattle.registry.specs.declared.rows.Row.{Row}
 use Rattle.registry.proofs.Standing.{Indexed, indexed_nil, indexed_cons, indexed_snoc, Finds, finds_nothing, finds, get_finds}
 
@@ -71,7 +71,7 @@ get_new ds d name e = go (eq_text d.name name) refl
 
 module _ {s : List ℕ} {l : Layout} where
   -- 10, then 11, then the definitions behind: these go on only where no definition before has the name
-  name_matches : (v : Result Unit Refused) (w : definition.Verdict) (d : MacroDef) (b : Bool) (h : Heading) {f : Option (Heading × Place × ℕ)} {o : Maybe MacroDef}
+  name_matches : (v : Result Unit Refused) (w : definition.Verdict) (d : MacroDef) (b : Bool) (h : Heading) {f : Option Definition} {o : Maybe MacroDef}
       → h.span ≡ d.span → name_at s l h.name ≡ d.name → Finds s l f o → (o ≡ none → VerdictMatches s l v w)
       → VerdictMatches s l (and_then_in (pick b (Err (refused_at h.span (Reserved h.name))) (duplicate_of h f)) v)
       (elim b [ true ↦ some (refusal 10 d.span (reserved_name d.name)) | false ↦ none ] and_then check_duplicate o d and_then w)

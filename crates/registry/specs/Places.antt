@@ -14,6 +14,7 @@ use Rattle.tape.specs.declared.layout.Place.{Place}
 use Rattle.nodes.specs.declared.Heading.{Heading}
 use Rattle.messages.specs.Reason.{refused_at}
 use Rattle.messages.specs.declared.Reason.TheVariants.{WithoutMessage, Reserved, Duplicate}
+use Rattle.registry.specs.declared.rows.Definition.{Definition}
 use Rattle.registry.specs.declared.rows.Row.{Row}
 
 -- ------------------------------------------------------------------ names and places
@@ -39,9 +40,9 @@ cons_if true a rest = a ∷ rest
 cons_if false a rest = rest
 
 -- the span is the later definition's, and the message has the start of the earlier one
-abbrev pub duplicate_of : Heading → Option (Heading × Place × ℕ) → Result Unit Refused
+abbrev pub duplicate_of : Heading → Option Definition → Result Unit Refused
 duplicate_of h None = (Ok tt)
-duplicate_of h (Some (first, params, end)) = Err (refused_at h.span (Duplicate h.name first.span))
+duplicate_of h (Some first) = Err (refused_at h.span (Duplicate h.name first.heading.span))
 
 abbrev pub and_then_in : Result Unit Refused → Result Unit Refused → Result Unit Refused
 and_then_in (Ok tt) v = v
@@ -69,11 +70,11 @@ module _ (s : List ℕ) (l : Layout) where
   -- ------------------------------------------------------------------ the definition of a name
 
   -- the first row whose definition has the name; where the key is another one, so is the name
-  unfoldable pub get_at : List Row → Text → Option (Heading × Place × ℕ)
+  unfoldable pub get_at : List Row → Text → Option Definition
   get_at [] name = None
   get_at (r ∷ rs) name =
       pick (eqb r.key (key_of name))
-      (on_heading None (λ h params. pick (eq_text (name_at s l h.name) name) (Some (h, params, end_of l rs)) (get_at rs name))
+      (on_heading None (λ h params. pick (eq_text (name_at s l h.name) name) (Some (record { heading = h; params = params; end = end_of l rs })) (get_at rs name))
       (heading_at s l r.place 60))
       (get_at rs name)
 

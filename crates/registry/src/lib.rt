@@ -14,15 +14,14 @@ ghost use Rattle.registry.specs.Places.{origin, key_of, key_at, rows_from, index
 
 use crate::counts::{Counts, fresh};
 use crate::rows::first_named;
-pub use crate::rows::{Index, Row};
-use answer::{Answer, answer_verdict, refuse_number};
+pub use crate::rows::{Definition, Index, Row};
+use answer::{Answer, answer_tape};
 use buffer::read_value;
 use grammar::code;
 use grammar::codes::DEFINITIONS;
 use grammar::kind::is_text;
 use messages::{Reason, Refused, refuse};
 use nodes::{Name, name_at, read_heading};
-use tape::accept::accept;
 use tape::held::HeldTape;
 use tape::layout::{Place, Tape};
 
@@ -132,7 +131,7 @@ fn check_name(tape: &Tape, seen: &[Row], p: Place) -> Result<(), Refused>
         return Err(refuse(span, Reason::Reserved(named)));
     }
     match first_named(tape, seen, name) {
-        Some((first, _, _)) => Err(refuse(span, Reason::Duplicate(named, first.span))),
+        Some(first) => Err(refuse(span, Reason::Duplicate(named, first.heading.span))),
         None => Ok(()),
     }
 }
@@ -145,23 +144,10 @@ fn check_registry(tape: &Tape) -> Result<(), Refused>
 }
 
 // 1 for a message buffer below 2,048 bytes, then the tape, then the names.
-#[tactic(auto, using(answer::proofs::Operations::message_short), unfolding(definition::specs::Answers::registry_answer))]
 fn answer_names(registry: &[u8], message: &mut [u8]) -> Answer
     ensures { answer_with result [] [] message.new ≡ registry_answer (length message.old) registry.now }
 {
-    if message.len() < 2048 {
-        return refuse_number(numbers::SHORT_BUFFER, message);
-    }
-    match accept(registry, DEFINITIONS) {
-        Err(fault) => refuse_number(fault.number(), message),
-        Ok(layout) => {
-            let tape = Tape {
-                bytes: registry,
-                layout,
-            };
-            answer_verdict(&tape, check_registry(&tape), message)
-        }
-    }
+    answer_tape(registry, DEFINITIONS, message, check_registry)
 }
 
 // The operation. Every count is 0, whatever the answer.

@@ -23,6 +23,14 @@ impl Row {
     };
 }
 
+// A definition that a name finds: its heading, the place behind it, where the parameters stand, and the entry where it ends.
+#[derive(Clone, Copy, Debug, PartialEq, Eq)]
+pub struct Definition {
+    pub heading: Heading,
+    pub params: Place,
+    pub end: usize,
+}
+
 // A registry's tape, and the rows of its definitions in their order.
 #[derive(Clone, Copy, Debug)]
 pub struct Index<'a, 'b> {
@@ -50,8 +58,8 @@ impl<'a, 'b> Index<'a, 'b> {
 }
 
 impl Index<'_, '_> {
-    // `Registry::get`: the first definition of a name, the place behind its heading, and the entry where it ends.
-    pub fn get(&self, name: &[u8]) -> Option<(Heading, Place, usize)>
+    // `Registry::get`: the first definition of a name.
+    pub fn get(&self, name: &[u8]) -> Option<Definition>
         ensures { result ≡ get_at self.now.tape.bytes.now self.now.tape.layout self.now.rows.now name.now }
     {
         first_named(&self.tape, self.rows, name)
@@ -83,15 +91,20 @@ fn end_of(l: Layout, behind: &[Row]) -> usize
 // The first definition of a name among some rows. A heading is read only where the key is the name's: for the names of a registry each
 // row is asked by all later ones, so a turn compares two numbers.
 #[tactic(auto, using(crate::proofs::Steps::get_other, crate::proofs::Steps::get_unread, crate::proofs::Steps::get_next, crate::proofs::Steps::get_done))]
-pub(crate) fn first_named(tape: &Tape, rows: &[Row], name: &[u8]) -> Option<(Heading, Place, usize)>
+pub(crate) fn first_named(tape: &Tape, rows: &[Row], name: &[u8]) -> Option<Definition>
     ensures { result ≡ get_at tape.now.bytes.now tape.now.layout rows.now name.now }
 {
     let key = key_of(name);
     for (i, row) in rows.iter().enumerate() {
         if row.key == key {
-            let (h, params) = read_heading(tape, row.place, code::DEFINITION).ok()?;
-            if name_at(tape, h.name) == name {
-                return Some((h, params, end_of(tape.layout, &rows[i + 1..])));
+            let (heading, params) = read_heading(tape, row.place, code::DEFINITION).ok()?;
+            if name_at(tape, heading.name) == name {
+                let end = end_of(tape.layout, &rows[i + 1..]);
+                return Some(Definition {
+                    heading,
+                    params,
+                    end,
+                });
             }
         }
     }

@@ -32,6 +32,7 @@ use Rattle.tape.proofs.Located.{past_place, accepted_alone}
 use Rattle.tape.proofs.Roots.{registry_root_lem, accepted_root}
 use Rattle.answer.specs.Matches.{answer_with}
 use Rattle.registry.specs.Places.{index_at, get_at}
+use Rattle.registry.specs.declared.rows.Definition.{Definition}
 use Rattle.nodes.specs.declared.Heading.{Heading}
 use Rattle.registry.proofs.Standing.{Defined, Finds, finds_nothing, finds, get_finds, indexed_registry}
 use Rattle.registry_held.specs.Held.{layout_of, Holds, of_tape, of_nothing, Builds, Describes, FoundMatches, found_in, GetMatches}
@@ -99,12 +100,12 @@ module _ {s : List ℕ} {l : Layout} where
       }
 
   -- a name finds the rewriting of the definition that it finds on the tape
-  found_matches : (ds : List MacroDef) (name : Text) {f : Option (Heading × Place × ℕ)} → Finds s l f (get ds name) → FoundMatches s l f (get (replace_defs de_morgan ds) name)
+  found_matches : (ds : List MacroDef) (name : Text) {f : Option Definition} → Finds s l f (get ds name) → FoundMatches s l f (get (replace_defs de_morgan ds) name)
   unfolding FoundMatches get replace_defs replace_def
   found_matches [] name finds_nothing = tt
   found_matches (d ∷ ds) name h = go (eq_text d.name name) (λ k. found_matches ds name k) h
     where
-      go : {f : Option (Heading × Place × ℕ)} (b : Bool) → (Finds s l f (get ds name) → FoundMatches s l f (get (replace_defs de_morgan ds) name))
+      go : {f : Option Definition} (b : Bool) → (Finds s l f (get ds name) → FoundMatches s l f (get (replace_defs de_morgan ds) name))
           → Finds s l f (elim b [ true ↦ some d | false ↦ get ds name ])
           → FoundMatches s l f (elim b [ true ↦ some (replace_def de_morgan d) | false ↦ get (replace_defs de_morgan ds) name ])
       go true k (finds h) = described d h
@@ -119,7 +120,7 @@ nothing_found s name b n = record { by_index = rw (ne_eqb b.answer.number 0 n, f
     go defs (of_tape z e a) = absurd (n z)
     go defs (of_nothing h) = tt
 
-pub name_found : (s name : List ℕ) (b : Built) {f : Option (Heading × Place × ℕ)} → Bytes s → b.answer.number ≡ 0
+pub name_found : (s name : List ℕ) (b : Built) {f : Option Definition} → Bytes s → b.answer.number ≡ 0
     → f ≡ get_at s b.layout (index_at s b.layout 255) name
     → GetMatches s b name f
 unfolding found_in registry_root map_reading

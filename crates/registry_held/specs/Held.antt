@@ -21,6 +21,7 @@ use Rattle.nodes.specs.Node.{name_at}
 use Rattle.nodes.specs.declared.Heading.{Heading}
 use Rattle.answer.specs.Matches.{answer_with}
 use Rattle.registry.specs.Places.{index_at, get_at}
+use Rattle.registry.specs.declared.rows.Definition.{Definition}
 use Rattle.registry_held.specs.declared.Built.{Built}
 
 -- ------------------------------------------------------------------ what it holds
@@ -58,17 +59,17 @@ pub record Describes (s : List ℕ) (l : Layout) (h : Heading) (params : Place) 
       Stands s l.codes l.values l.text (params.at + length (flat_params d.params))
       (params.text + length (text_of (flat_params d.params))) (flat_body given)
 
-unfoldable pub FoundMatches : List ℕ → Layout → Option (Heading × Place × ℕ) → Maybe MacroDef → Type 0
+unfoldable pub FoundMatches : List ℕ → Layout → Option Definition → Maybe MacroDef → Type 0
 FoundMatches s l None none = Unit {0}
 FoundMatches s l None (some d) = ⊥
-FoundMatches s l (Some (h, params, end)) none = ⊥
-FoundMatches s l (Some (h, params, end)) (some d) = Describes s l h params d
+FoundMatches s l (Some found) none = ⊥
+FoundMatches s l (Some found) (some d) = Describes s l found.heading found.params d
 
 -- what a name finds by the index of the tape, in a registry that passed; in another it finds nothing
-unfoldable pub found_in : List ℕ → Built → Text → Option (Heading × Place × ℕ)
+unfoldable pub found_in : List ℕ → Built → Text → Option Definition
 found_in s b name = elim (eqb b.answer.number 0) [ true ↦ get_at s b.layout (index_at s b.layout 255) name | false ↦ None ]
 
 -- f is found so, and it is what the definition finds of the name, whatever definitions the registry holds
-pub record GetMatches (s : List ℕ) (b : Built) (name : Text) (f : Option (Heading × Place × ℕ)) : Type 0 where
+pub record GetMatches (s : List ℕ) (b : Built) (name : Text) (f : Option Definition) : Type 0 where
   pub by_index : f ≡ found_in s b name
   pub as_defined : (defs : List MacroDef) → Holds s b defs → FoundMatches s b.layout f (get defs name)

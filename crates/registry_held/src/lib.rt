@@ -14,11 +14,10 @@ ghost use Rattle.registry_held.specs.Held.{layout_of, Builds, GetMatches};
 use answer::Answer;
 use expansion::Expanded;
 use grammar::codes::DEFINITIONS;
-use nodes::Heading;
 use registry::counts::Counts;
-use registry::{Index, Row};
+use registry::{Definition, Index, Row};
 use tape::accept::accept;
-use tape::layout::{Layout, Place, Tape, of_area};
+use tape::layout::{Layout, Tape, of_area};
 
 // What building a registry came to: the operation's answer, and how an accepted tape is laid out. The state is none of it: it is the
 // caller's, who has it first from `registry::counts::fresh`, and then from each expansion.
@@ -53,14 +52,14 @@ fn build(tape: &[u8], message: &mut [u8]) -> Built
 }
 
 // The definition of a name. A registry has 255 definitions at the most.
-fn find_at(tape: &Tape, name: &[u8]) -> Option<(Heading, Place, usize)>
+fn find_at(tape: &Tape, name: &[u8]) -> Option<Definition>
     ensures { result ≡ get_at tape.now.bytes.now tape.now.layout (index_at tape.now.bytes.now tape.now.layout 255) name.now }
 {
     Index::new(tape, &mut [Row::EMPTY; 255]).get(name)
 }
 
 // The definition of a name in a registry that passed; one that did not holds none.
-fn find(tape: &[u8], built: Built, name: &[u8]) -> Option<(Heading, Place, usize)>
+fn find(tape: &[u8], built: Built, name: &[u8]) -> Option<Definition>
     ensures { GetMatches tape.now built name.now result }
 {
     let refused = built.answer.number != numbers::OK;
@@ -84,7 +83,7 @@ pub fn new<'a>(tape: &'a [u8], message: &mut [u8]) -> Registry<'a>
 }
 
 // `Registry::get`: the first definition of a name, as the definition finds it.
-pub fn get<'a>(r: Registry<'a>, name: &[u8]) -> Option<(Heading, Place, usize)>
+pub fn get<'a>(r: Registry<'a>, name: &[u8]) -> Option<Definition>
     ensures { GetMatches r.entry.tape.now r.entry.built name.now result }
 {
     find(r.tape, r.built, name)

@@ -1,7 +1,8 @@
--- `check_library::check_at` meets its contract. What `answer_verdict` promises is a function type (`AnswersVerdict`), whose law `search`
--- does not match.
+-- `check_library::check_at` meets its contract. The law wants a function as its argument, what each call of the closure finds, which
+-- `search` does not build.
+use Rattle.std.proofs.Common.{rules}
 use Rattle.check_library.proofs.Operation.{checked}
 use Rattle.check_library.proofs.check_at.Goals as goal
 
-pub returns-in-Ok : goal.returns-in-Ok
-returns-in-Ok c = checked _ _ _ c.type_inv.registry c.if-message-lt2048.false c.in-Ok.ensures c.check_registry.ensures c.answer_verdict.ensures
+pub returns : goal.returns
+returns c = checked _ _ _ c.type_inv.registry c.answer_tape.ensures (λ t v p. search rules)

@@ -6,5 +6,5 @@ use Rattle.older.proofs.older.Goals as goal
 
 pub returns-else-none_on : goal.returns-else-none_on
 returns-else-none_on c =
-    given_or _ (bytes_all _ (λ i. (c.type_inv.bytes i).fits)) _ c.if-res-lt12296.false
+    given_or _ (bytes_all _ (λ i. (c.type_inv.bytes i).fits)) _ (sym c.long_result.ensures ∙ c.if-not-long_result.false)
     (sort_told _ c.first_code.ensures c.root_sort.ensures (sym c.accept.ensures ∙ c.in-Ok.is)) c.older_rewritten.ensures

@@ -1,16 +1,9 @@
--- `registry::answer_names` meets its contract. The law wants a function as its argument, which `search` does not build.
-use mathlib.Core.Path.{sym, ◌∙◌}
+-- `registry::answer_names` meets its contract. The law wants functions as its arguments, that each byte is one and what each call finds,
+-- which `search` does not build.
+use Rattle.std.proofs.Common.{rules}
 use Rattle.format.proofs.Accepted.{bytes_all}
-use Rattle.registry.proofs.Answers.{built, refused}
+use Rattle.registry.proofs.Answers.{built}
 use Rattle.registry.proofs.answer_names.Goals as goal
 
-pub returns-in-Err : goal.returns-in-Err
-returns-in-Err c =
-    let registry = c.args.registry.now in
-    refused registry c.if-message-lt2048.false (bytes_all registry (λ i. (c.type_inv.registry i).fits)) (sym c.accept.ensures ∙ c.in-Err.is) c.number.ensures c.refuse_number-in-Err.ensures
-
-pub returns-in-Ok : goal.returns-in-Ok
-returns-in-Ok c =
-    let registry = c.args.registry.now in
-    built registry c.if-message-lt2048.false (bytes_all registry (λ i. (c.type_inv.registry i).fits)) (sym c.accept.ensures ∙ c.in-Ok.is) c.check_registry.ensures
-    c.answer_verdict.ensures
+pub returns : goal.returns
+returns c = built _ _ (bytes_all _ (λ i. (c.type_inv.registry i).fits)) c.answer_tape.ensures (λ t v p. search rules)

@@ -4,5 +4,5 @@ use Rattle.registry.proofs.rows.first_named.Goals as goal
 
 pub returns-then-eq : goal.returns-then-eq
 returns-then-eq c =
-    get_found _ _ _ _ _ c.loop-i.invariant c.loop-i-test.true c.key_of-key.ensures c.if-row-key.true c.read_heading.ensures c.ok.ensures.value c.in_ok-h.was
-    c.name_at.ensures c.if-eq.ensures c.end_of.ensures
+    get_found _ _ _ _ _ c.loop-i.invariant c.loop-i-test.true c.key_of-key.ensures c.if-row-key.true c.read_heading.ensures c.ok.ensures.value c.in_ok-heading.was
+    c.name_at.ensures c.if-eq.ensures c.end_of-end.ensures
