@@ -3,11 +3,12 @@
 use Rattle.std.proofs.Common.{Some}
 use Prim.Native.Nat.{ℕ, suc, ◌+◌, ◌-◌, ◌≤◌, ◌<◌}
 use mathlib.Core.Path.{◌≡◌, refl, sym, ap, ◌∙◌}
-use mathlib.Core.Bool.{false}
+use mathlib.Core.Bool.{Bool, false}
 use mathlib.Core.List.{List, [], ◌∷◌, ◌++◌, append_assoc}
 use native.Mathlib.Nat.{zero-add}
 use native.Mathlib.Omega.{arith}
 use borrow.Author.Tests.{le-leb, eq-eqb, ne_eqb}
+use lib.Dec.{eqb}
 use lib.ListN.{length, length-append}
 use Rattle.format.specs.Entry.{Entry, entry, codes_of, values_of, text_of}
 use Rattle.format.specs.Flat.{flat_condition}
@@ -21,7 +22,7 @@ use Rattle.tape.proofs.Located.{past, past_append, past_at, Inside, inside_front
 use Rattle.tape.proofs.Runs.{run_code, run_value}
 use Rattle.tape.proofs.Trees.{passes_condition}
 use Rattle.de_morgan.specs.declared.Side.{Side}
-use Rattle.de_morgan.specs.Rewritten.{begins_at, negation, sides_after, sides_with, heads_of, heads_from}
+use Rattle.de_morgan.specs.Rewritten.{negation, sides_after, sides_with, heads_of, heads_from}
 
 -- ------------------------------------------------------------------ entries without their texts
 
@@ -50,6 +51,11 @@ bare_values [] = refl
 bare_values (e ∷ es) = rw (bare_values es) refl
 
 -- ------------------------------------------------------------------ right sides to come
+
+-- the nearest begins at an entry
+unfoldable pub begins_at : ℕ → List Side → Bool
+begins_at at [] = false
+begins_at at (side ∷ sides) = eqb side.at at
 
 -- none begins in front of entry k
 abbrev Later : ℕ → List Side → Type 0

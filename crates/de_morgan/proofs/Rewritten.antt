@@ -34,8 +34,8 @@ use Rattle.tape.proofs.Located.{Inside, Alone, accepted_inside, accepted_alone}
 use Rattle.tape.proofs.Roots.{Accepted}
 use Rattle.tape.proofs.Runs.{place}
 use Rattle.tape.specs.Ors.{coded, ors_from, ors_in, rewritten_count}
-use Rattle.de_morgan.specs.Rewritten.{can_rewrite, begins_at, heads_from, tape_in, rewritten_in, rewritten_layout}
-use Rattle.de_morgan.proofs.Becoming.{bare, bare_length, bare_codes, bare_values, heads_become}
+use Rattle.de_morgan.specs.Rewritten.{can_rewrite, heads_from, tape_in, rewritten_in, rewritten_layout}
+use Rattle.de_morgan.proofs.Becoming.{begins_at, bare, bare_length, bare_codes, bare_values, heads_become}
 use Rattle.de_morgan.proofs.Heads.{heads_put}
 
 -- ------------------------------------------------------------------ entries at the start of a slice

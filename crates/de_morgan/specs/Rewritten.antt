@@ -2,7 +2,7 @@
 -- of its left side, a 3 comes in front of its right one, every other entry stays, and so does the text. Where the slice holds a tree at
 -- the layout's start, this is the tape of the rewritten tree (proofs/Rewritten.antt).
 -- Assumes nothing.
-use Rattle.std.specs.Prelude.{ℕ, zero, suc, ◌+◌, ◌*◌, ◌≤◌, ◌≡◌, List, [], ◌∷◌, ◌++◌, reverse, Bool, false, ◌&&◌, leb, eqb, length, Option, Some, None}
+use Rattle.std.specs.Prelude.{ℕ, zero, suc, ◌+◌, ◌*◌, ◌≤◌, ◌≡◌, List, [], ◌∷◌, ◌++◌, reverse, Bool, ◌&&◌, leb, eqb, length, Option, Some, None}
 use Rattle.std.proofs.lemmas.List.Edits.{sets}
 use Rattle.format.specs.Entry.{Entry, entry, le}
 use Rattle.format.specs.Limits.{weigh}
@@ -17,12 +17,7 @@ use Rattle.de_morgan.specs.declared.Side.{Side}
 
 -- ------------------------------------------------------------------ right sides that are still to come
 
--- The nearest first. One begins at an entry:
-unfoldable pub begins_at : ℕ → List Side → Bool
-begins_at at [] = false
-begins_at at (side ∷ sides) = eqb side.at at
-
--- the negation in front of that entry, and the sides behind it
+-- The nearest first: the negation in front of the entry where it begins, and the sides behind it
 unfoldable pub negation : ℕ → List Side → List Entry
 negation at [] = []
 negation at (side ∷ sides) = pick (eqb side.at at) (entry 3 side.span ∷ []) []

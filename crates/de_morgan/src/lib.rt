@@ -5,7 +5,7 @@
 // and the text as it is. The tape has three entries more for each Or.
 #![tactic(auto)]
 
-ghost use Rattle.std.specs.Prelude.{◌≡◌, ◌&&◌, [], ◌+◌, ◌*◌, ◌≤◌, ◌<◌, eqb, reverse};
+ghost use Rattle.std.specs.Prelude.{◌≡◌, ◌&&◌, [], ◌≤◌, ◌<◌, eqb};
 ghost use Rattle.arrayvec.specs.ArrayVec.{array_vec_len};
 ghost use Rattle.format.specs.Macro.{tally};
 ghost use Rattle.tape.specs.Ors.{coded, ors_from, ors_in};
@@ -57,11 +57,11 @@ struct Side {
 
 // Puts the negation in front of entry `at`, if the nearest right side begins there, and answers where the next entry goes. The nearest is
 // the last that waits: they begin in that order, and at most one at an entry.
-fn begin_side(
+fn begin_side<const N: usize>(
     out: &mut [u8],
     n: usize,
     put: usize,
-    sides: &mut ArrayVec<Side, 256>,
+    sides: &mut ArrayVec<Side, N>,
     at: usize,
 ) -> usize
     requires { (n ≤ 1024) × (put ≤ 4096) }
@@ -90,8 +90,14 @@ fn right_side(tape: &Tape, left: Place) -> usize
 }
 
 // Adds the right side that an entry brings, if it is an Or. Its left side stands at `next`.
-fn add_side(sides: &mut ArrayVec<Side, 256>, tape: &Tape, code: u8, value: u64, next: Place)
-    requires { code ≡ 2 → array_vec_len sides.old < 256 }
+fn add_side<const N: usize>(
+    sides: &mut ArrayVec<Side, N>,
+    tape: &Tape,
+    code: u8,
+    value: u64,
+    next: Place,
+)
+    requires { code ≡ 2 → array_vec_len sides.old < N }
     ensures { SideAdded tape.now.bytes.now tape.now.layout code value next sides.old.items sides.new.items }
 {
     if code == code::OR {

@@ -5,12 +5,12 @@ use Rattle.de_morgan.proofs.Sides.{none_waits, other_waits, side_begins}
 use Rattle.de_morgan.proofs.begin_side.Goals as goal
 
 pub returns-in_default : goal.returns-in_default
-returns-in_default c = none_waits _ _ _ _ _ (sym (rw (c.as_slice.ensures.value, c.in_default.is) at c.last.ensures.value))
+returns-in_default g c = none_waits _ _ _ _ _ (sym (rw (c.as_slice.ensures.value, c.in_default.is) at c.last.ensures.value))
 
 pub returns-then-side-at : goal.returns-then-side-at
-returns-then-side-at c = other_waits _ _ _ _ _ (sym (rw c.as_slice.ensures.value at c.in-Some.ensures.value)) c.if-side-at.true
+returns-then-side-at g c = other_waits _ _ _ _ _ (sym (rw c.as_slice.ensures.value at c.in-Some.ensures.value)) c.if-side-at.true
 
 pub returns : goal.returns
-returns c =
+returns g c =
     side_begins _ _ _ _ _ (sym (rw c.as_slice.ensures.value at c.in-Some.ensures.value)) c.if-side-at.false c.pop.ensures.value c.pop.ensures.items
     c.put_head.ensures
