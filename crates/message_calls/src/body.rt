@@ -8,10 +8,10 @@ ghost use Rattle.buffer.specs.Message.{Puts};
 ghost use Rattle.message_parts.specs.Names.{names_at};
 
 use buffer::message::Message;
-use message_parts::names::params_above;
+use message_parts::names::{Params, params_above};
 use message_parts::{around, around_two, named, numbered};
 use nodes::{Name, span_of};
-use tape::layout::{Place, Tape};
+use tape::layout::Tape;
 
 pub fn reserved_name(message: &mut Message, tape: &Tape, name: Name)
     ensures { Puts (reserved_name (name_at tape.now.bytes.now tape.now.layout name)) message.old message.new }
@@ -38,14 +38,8 @@ pub fn duplicate_definition(message: &mut Message, tape: &Tape, name: Name, span
     numbered(message, span_of(span).start, b")");
 }
 
-pub fn undeclared_parameter(
-    message: &mut Message,
-    tape: &Tape,
-    name: Name,
-    params: Place,
-    count: u64,
-)
-    ensures { Puts (undeclared_parameter (name_at tape.now.bytes.now tape.now.layout name) (names_at tape.now.bytes.now tape.now.layout params count)) message.old message.new }
+pub fn undeclared_parameter(message: &mut Message, tape: &Tape, name: Name, params: Params)
+    ensures { Puts (undeclared_parameter (name_at tape.now.bytes.now tape.now.layout name) (names_at tape.now.bytes.now tape.now.layout params.place params.count)) message.old message.new }
 {
     around(
         message,
@@ -54,7 +48,7 @@ pub fn undeclared_parameter(
         name,
         b"` does not name a declared parameter (declared: ",
     );
-    params_above(message, tape, params, count, None);
+    params_above(message, tape, params, None);
 }
 
 pub fn plain_identifier(message: &mut Message, tape: &Tape, name: Name)

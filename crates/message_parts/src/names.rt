@@ -11,6 +11,13 @@ use buffer::message::Message;
 use nodes::{Name, name_at, read_param};
 use tape::layout::{Place, Tape};
 
+// The parameters of a definition: where they stand on its tape, and how many they are.
+#[derive(Clone, Copy, Debug, PartialEq, Eq)]
+pub struct Params {
+    pub place: Place,
+    pub count: u64,
+}
+
 #[tactic(auto, using(crate::proofs::Less::less_texts))]
 fn is_above(tape: &Tape, floor: Option<Name>, name: Name) -> bool
     ensures { result ≡ above (spelled tape.now.bytes.now tape.now.layout floor) (name_at tape.now.bytes.now tape.now.layout name) }
@@ -43,12 +50,12 @@ fn lower_of(tape: &Tape, floor: Option<Name>, best: Option<Name>, name: Name) ->
 }
 
 #[tactic(auto, using(crate::proofs::Params::least_next, crate::proofs::Params::least_end, crate::proofs::Params::least_done))]
-fn least_above(tape: &Tape, params: Place, count: u64, floor: Option<Name>) -> Option<Name>
-    ensures { spelled tape.now.bytes.now tape.now.layout result ≡ least_in (spelled tape.now.bytes.now tape.now.layout floor) none (names_at tape.now.bytes.now tape.now.layout params count) }
+fn least_above(tape: &Tape, params: Params, floor: Option<Name>) -> Option<Name>
+    ensures { spelled tape.now.bytes.now tape.now.layout result ≡ least_in (spelled tape.now.bytes.now tape.now.layout floor) none (names_at tape.now.bytes.now tape.now.layout params.place params.count) }
 {
     let mut best = None;
-    let mut p = params;
-    for _ in 0..count {
+    let mut p = params.place;
+    for _ in 0..params.count {
         let Some((name, next)) = read_param(tape, p) else {
             return best;
         };
@@ -80,17 +87,11 @@ fn put_name(message: &mut Message, tape: &Tape, floor: Option<Name>, name: Name)
 
 // The names above `floor`, and the bracket behind them.
 #[tactic(auto, using(crate::proofs::Listing::list_last, crate::proofs::Listing::list_next, crate::proofs::Listing::list_falls), unfolding(definition::specs::Text::open_text))]
-pub fn params_above(
-    message: &mut Message,
-    tape: &Tape,
-    params: Place,
-    count: u64,
-    floor: Option<Name>,
-)
-    ensures { PutsAll (list_above (spelled tape.now.bytes.now tape.now.layout floor) (rest (spelled tape.now.bytes.now tape.now.layout floor) (names_at tape.now.bytes.now tape.now.layout params count)) ∷ utf8 ")" ∷ []) message.old message.new }
+pub fn params_above(message: &mut Message, tape: &Tape, params: Params, floor: Option<Name>)
+    ensures { PutsAll (list_above (spelled tape.now.bytes.now tape.now.layout floor) (rest (spelled tape.now.bytes.now tape.now.layout floor) (names_at tape.now.bytes.now tape.now.layout params.place params.count)) ∷ utf8 ")" ∷ []) message.old message.new }
 {
     let mut last = floor;
-    while let Some(name) = least_above(tape, params, count, last) {
+    while let Some(name) = least_above(tape, params, last) {
         put_name(message, tape, last, name);
         last = Some(name);
     }

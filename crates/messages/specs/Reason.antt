@@ -75,7 +75,7 @@ abbrev pub number_of : Reason → ℕ
 number_of (WithoutMessage n) = n
 number_of (Reserved n) = 10
 number_of (Duplicate n s) = 11
-number_of (Undeclared n p k) = 20
+number_of (Undeclared n params) = 20
 number_of (PlainIdentifier n) = 21
 number_of MacroInMacro = 22
 number_of (UnknownMacro n) = 30
@@ -104,7 +104,7 @@ unfoldable pub message_of : List ℕ → Layout → List ℕ → Layout → Reas
 message_of s d t c (WithoutMessage n) = []
 message_of s d t c (Reserved n) = reserved_name (name_at s d n)
 message_of s d t c (Duplicate n span) = duplicate_definition (name_at s d n) (span_start span)
-message_of s d t c (Undeclared n params k) = undeclared_parameter (name_at s d n) (names_at s d params k)
+message_of s d t c (Undeclared n params) = undeclared_parameter (name_at s d n) (names_at s d params.place params.count)
 message_of s d t c (PlainIdentifier n) = plain_identifier (name_at s d n)
 message_of s d t c MacroInMacro = macro_in_macro
 message_of s d t c (UnknownMacro n) = unknown_macro (name_at t c n)

@@ -16,6 +16,7 @@ use message_calls::call::{
     argument_count, budget_exceeded, cedar_in_condition, cedar_in_value, condition_as_value,
     unknown_macro, value_as_condition,
 };
+use message_parts::names::Params;
 use message_places::parameter::{
     binder_as_condition, not_a_condition, not_a_predicate, not_a_term, not_an_identifier,
     not_an_interval, unbound_parameter,
@@ -24,7 +25,7 @@ use message_places::stray::{
     stray_condition, stray_field, stray_operand, stray_slot, stray_within,
 };
 use nodes::{Name, Refusal, Sigil, Span, span_of};
-use tape::layout::{Place, Tape};
+use tape::layout::Tape;
 
 // Why an input is refused. A name is one of the definition's tape (a registry's too), or of the call's (a condition's too).
 #[derive(Clone, Copy, Debug, PartialEq, Eq)]
@@ -36,8 +37,8 @@ pub enum Reason {
     // 10, 11: the definition's name; the span of the one before
     Reserved(Name),
     Duplicate(Name, u64),
-    // 20: the name; where the parameters stand, and how many
-    Undeclared(Name, Place, u64),
+    // 20: the name; the parameters, whose names the message lists
+    Undeclared(Name, Params),
     // 21, 22
     PlainIdentifier(Name),
     MacroInMacro,
@@ -115,7 +116,7 @@ pub fn number(reason: Reason) -> u32
         Reason::WithoutMessage(n) => n,
         Reason::Reserved(_) => 10,
         Reason::Duplicate(_, _) => 11,
-        Reason::Undeclared(_, _, _) => 20,
+        Reason::Undeclared(_, _) => 20,
         Reason::PlainIdentifier(_) => 21,
         Reason::MacroInMacro => 22,
         Reason::UnknownMacro(_) => 30,
@@ -161,7 +162,7 @@ fn say(m: &mut Message, definition: &Tape, call: &Tape, reason: Reason)
         Reason::WithoutMessage(_) => m.put(b""),
         Reason::Reserved(n) => reserved_name(m, definition, n),
         Reason::Duplicate(n, span) => duplicate_definition(m, definition, n, span),
-        Reason::Undeclared(n, params, k) => undeclared_parameter(m, definition, n, params, k),
+        Reason::Undeclared(n, params) => undeclared_parameter(m, definition, n, params),
         Reason::PlainIdentifier(n) => plain_identifier(m, definition, n),
         Reason::MacroInMacro => macro_in_macro(m),
         Reason::UnknownMacro(n) => unknown_macro(m, call, n),

@@ -11,4 +11,4 @@ use Rattle.message_calls.proofs.body.undeclared_parameter.Goals as goal
 
 pub returns : goal.returns
 unfolding open_text open_messages open_pieces
-returns c = wrote (c.around.ensures and c.params_above.ensures) (rw (list_all (names_at c.args.tape.now.bytes.now c.args.tape.now.layout c.args.params c.args.count)) refl)
+returns c = wrote (c.around.ensures and c.params_above.ensures) (rw (list_all (names_at c.args.tape.now.bytes.now c.args.tape.now.layout c.args.params.place c.args.params.count)) refl)

@@ -12,7 +12,7 @@ use Rattle.message_parts.proofs.names.params_above.Given as goal
 abbrev pub invariant-loop-name : goal.invariant-loop-name
 invariant-loop-name l =
     let s = l.tape.bytes.now in
-    let names = names_at s l.tape.layout l.params l.count in
+    let names = names_at s l.tape.layout l.fn.params.place l.fn.params.count in
     let last = spelled s l.tape.layout l.last in
     let floor = spelled s l.tape.layout l.initial.last in
     (l.message.bytes.ghost_name ≡ l.initial.message.bytes.ghost_name)
@@ -23,4 +23,4 @@ abbrev pub decreases-loop-name : goal.decreases-loop-name
 decreases-loop-name l =
     let s = l.tape.bytes.now in
     let last = spelled s l.tape.layout l.last in
-    length (rest last (names_at s l.tape.layout l.params l.count))
+    length (rest last (names_at s l.tape.layout l.fn.params.place l.fn.params.count))
