@@ -2,19 +2,23 @@
 -- Assumes nothing.
 use Prim.Native.Nat.{ℕ, suc, ◌+◌, ◌*◌, ◌≤◌}
 use mathlib.Core.Path.{◌≡◌, refl, sym, ap, ◌∙◌}
+use mathlib.Core.Bool.{Bool, true, false}
 use mathlib.Core.List.{List, [], ◌∷◌, ◌++◌, reverse}
 use native.Mathlib.Nat.{add-zero}
 use native.Mathlib.Omega.{arith}
-use lib.ListN.{length, set}
+use lib.Dec.{eqb}
+use lib.ListN.{length, length-append, set}
 use lib.Seq.{sets, set_comm}
 use Rattle.buffer.proofs.Sets.{sets_append}
 use Rattle.format.proofs.Accepted.{length_codes}
 use Rattle.format.proofs.Encodes.{length_le}
-use Rattle.format.specs.Entry.{Entry, le, codes_of, values_of}
+use Rattle.format.specs.Entry.{Entry, entry, le, codes_of, values_of}
 use Rattle.tape.specs.Layouts.{code_at, value_at, width_at, text_behind}
+use Rattle.tape.specs.Pick.{pick}
 use Rattle.tape.specs.declared.layout.Layout.{Layout}
-use Rattle.de_morgan.specs.Rewritten.{negation, heads_of, heads_from, put_head, put_heads, SideBegun, EntryPut, SideAdded}
+use Rattle.de_morgan.specs.Rewritten.{negation, heads_of, heads_from, put_head, put_heads, EntriesPut, SideBegun, SideAdded}
 use Rattle.de_morgan.specs.declared.Side.{Side}
+use Rattle.de_morgan.specs.declared.Rewriting.{Rewriting}
 
 pub put_append : (n at : ℕ) (es fs : List Entry) (out : List ℕ)
     → put_heads n at (es ++ fs) out ≡ put_heads n (at + length es) fs (put_heads n at es out)
@@ -52,35 +56,66 @@ heads_put n at (e ∷ es) out h =
     heads_put n (at + 1) es (put_head n at e.code e.value out) (omega arith)
     ∙ rw (c, y, sets_comm first (suc (8 + at)) cs x v (omega (arith, length_codes es))) (sym (sets_append (sets out (8 + at) (e.code ∷ cs)) x v vs))
 
+-- ------------------------------------------------------------------ runs of entries that are put
+
+pub nothing_put : {h : Rewriting} → EntriesPut [] h h
+unfolding put_heads
+nothing_put = record { same_slice = refl; same_n = refl; next_is = omega arith; written = refl }
+
+-- what is put behind entries that were put
+puts_rest : (es fs : List Entry) {h h' : Rewriting} → EntriesPut es h h'
+    → put_heads h'.n h'.next fs h'.out.now ≡ put_heads h.n h.next (es ++ fs) h.out.now
+puts_rest es fs {h} p = rw (p.same_n, p.next_is, p.written) (sym (put_append h.n h.next es fs h.out.now))
+
+puts_append : (es fs : List Entry) {h h₁ h₂ : Rewriting} → EntriesPut es h h₁ → EntriesPut fs h₁ h₂ → EntriesPut (es ++ fs) h h₂
+puts_append es fs p q =
+    record {
+      same_slice = q.same_slice ∙ p.same_slice;
+      same_n = q.same_n ∙ p.same_n;
+      next_is = omega (arith, p.next_is, q.next_is, length-append es fs);
+      written = q.written ∙ puts_rest es fs p;
+    }
+
+pub three_put : {e f g : Entry} {h h₁ h₂ h₃ : Rewriting} → EntriesPut (e ∷ []) h h₁ → EntriesPut (f ∷ []) h₁ h₂ → EntriesPut (g ∷ []) h₂ h₃
+    → EntriesPut (e ∷ f ∷ g ∷ []) h h₃
+three_put {e} {f} {g} p q r = puts_append (e ∷ f ∷ []) (g ∷ []) (puts_append (e ∷ []) (f ∷ []) p q) r
+
 -- ------------------------------------------------------------------ the loop
 
+pub one_negation : (at : ℕ) (sides : List Side) → length (negation at sides) ≤ 1
+unfolding negation
+one_negation at [] = omega arith
+one_negation at (side ∷ sides) = go (eqb side.at at)
+  where
+    go : (b : Bool) → length (pick b (entry 3 side.span ∷ []) []) ≤ 1
+    go true = omega arith
+    go false = omega arith
+
+pub three_heads : (code value : ℕ) → length (heads_of code value) ≤ 3
+unfolding heads_of
+three_heads code value = go (eqb code 2)
+  where
+    go : (b : Bool) → length (pick b (entry 3 value ∷ entry 1 value ∷ entry 3 value ∷ []) (entry code value ∷ [])) ≤ 3
+    go true = omega arith
+    go false = omega arith
+
 -- what is left to put, from a place on; the nearest side is the last
-abbrev pub left_to_put : List ℕ → Layout → ℕ → ℕ → ℕ → ℕ → ℕ → List Side → List ℕ → List ℕ
-left_to_put s l n left at text put sides out = put_heads n put (heads_from s l left at text (reverse sides)) out
+abbrev pub left_to_put : List ℕ → Layout → ℕ → ℕ → ℕ → List Side → Rewriting → List ℕ
+left_to_put s l left at text sides h = put_heads h.n h.next (heads_from s l left at text (reverse sides)) h.out.now
 
 -- an entry's turn: the negation in front of it, what it becomes, and the right side that it brings
-module _ (s : List ℕ) (l : Layout) (n left at text put : ℕ) (sides : List Side) (out : List ℕ) where
-  pub put_turn : {begun code value text' put' : ℕ} {sides₁ sides₂ : List Side} {out₁ out₂ : List ℕ}
-      → SideBegun n put at sides out begun sides₁ out₁
+module _ (s : List ℕ) (l : Layout) (left at text : ℕ) (sides : List Side) (h : Rewriting) where
+  pub put_turn : {code value text' : ℕ} {sides₁ sides₂ : List Side} {h₁ h₂ : Rewriting}
+      → SideBegun at sides sides₁ h h₁
       → code ≡ code_at s l at → value ≡ value_at s l at → text' ≡ text_behind l.size text (width_at s l at)
-      → EntryPut n begun code value out₁ put' out₂
+      → EntriesPut (heads_of code value) h₁ h₂
       → SideAdded s l code value (record { at = at + 1; text = text' }) sides₁ sides₂
-      → left_to_put s l n left (at + 1) text' put' sides₂ out₂
-      ≡ left_to_put s l n (suc left) at text put sides out
+      → left_to_put s l left (at + 1) text' sides₂ h₂ ≡ left_to_put s l (suc left) at text sides h
   unfolding heads_from
-  put_turn {begun} {code} {value} {text'} {put'} {sides₁} {sides₂} {out₁} {out₂} p c v t e a =
+  put_turn {code} {value} {text'} {sides₁} {sides₂} p c v t e a =
       let rest = heads_from s l left (at + 1) text' (reverse sides₂) in
       let heads = heads_of code value in
       let first = negation at (reverse sides) in
       let same : heads_from s l (suc left) at text (reverse sides) ≡ first ++ (heads ++ rest) =
       rw (← t, ← c, ← v, ← p.sides_are, ← a.sides_are) refl in
-      rw (
-        same,
-        put_append n put first (heads ++ rest) out,
-        put_append n (put + length first) heads rest (put_heads n put first out),
-        ← p.written,
-        ← p.put_is,
-        ← e.written,
-        ← e.put_is,
-      )
-      refl
+      rw same (puts_rest heads rest e ∙ puts_rest first (heads ++ rest) p.put)

@@ -11,57 +11,42 @@ use lib.Dec.{eqb}
 use lib.ListN.{length, take, length-append}
 use Rattle.std.specs.List.{slice_get}
 use Rattle.std.specs.Option.{option_to_list}
+use Rattle.format.specs.Entry.{entry}
 use Rattle.format.specs.Limits.{weigh}
 use Rattle.tape.specs.Scan.{skip_at}
 use Rattle.tape.specs.declared.layout.Layout.{Layout}
 use Rattle.tape.specs.declared.layout.Place.{Place}
 use Rattle.de_morgan.specs.declared.Side.{Side}
+use Rattle.de_morgan.specs.declared.Rewriting.{Rewriting}
 use Rattle.de_morgan.proofs.Last.{on_top, last_none, last_some}
-use Rattle.de_morgan.specs.Rewritten.{right_of, negation, sides_after, sides_with, put_head, put_heads, SideBegun, SideAdded}
+use Rattle.de_morgan.specs.Rewritten.{right_of, negation, sides_after, sides_with, EntriesPut, SideBegun, SideAdded}
+use Rattle.de_morgan.proofs.Heads.{nothing_put}
 
-module _ (n put at : ℕ) (sides : List Side) (out : List ℕ) where
-  pub none_waits : slice_get sides (length sides - 1) ≡ None → SideBegun n put at sides out put sides out
-  unfolding negation sides_after put_heads
+module _ (at : ℕ) (sides : List Side) {h : Rewriting} where
+  pub none_waits : slice_get sides (length sides - 1) ≡ None → SideBegun at sides sides h h
+  unfolding negation sides_after
   none_waits e =
       let none = last_none sides e in
-      record {
-        sides_are = rw none refl;
-        no_more = omega arith;
-        put_is = rw none (omega arith);
-        put_most = omega arith;
-        written = rw none refl;
-      }
+      record { sides_are = rw none refl; no_more = omega arith; put = rw none nothing_put }
 
-  pub other_waits : {side : Side} → slice_get sides (length sides - 1) ≡ Some side → (side.at ≡ at → ⊥) → SideBegun n put at sides out put sides out
-  unfolding negation sides_after put_heads
+  pub other_waits : {side : Side} → slice_get sides (length sides - 1) ≡ Some side → (side.at ≡ at → ⊥) → SideBegun at sides sides h h
+  unfolding negation sides_after
   other_waits {side} e f =
       let rest = take (length sides - 1) sides in
       let waits : reverse sides ≡ side ∷ reverse rest = last_some sides side e in
       let b : eqb side.at at ≡ false = ne_eqb side.at at f in
-      record {
-        sides_are = rw (waits, b) refl;
-        no_more = omega arith;
-        put_is = rw (waits, b) (omega arith);
-        put_most = omega arith;
-        written = rw (waits, b) refl;
-      }
+      record { sides_are = rw (waits, b) refl; no_more = omega arith; put = rw (waits, b) nothing_put }
 
-  pub side_begins : {side : Side} {after : List Side} {popped : Option Side} {written : List ℕ} → slice_get sides (length sides - 1) ≡ Some side → side.at ≡ at
-      → popped ≡ slice_get sides (length sides - 1) → sides ≡ after ++ option_to_list popped → written ≡ put_head n put 3 side.span out
-      → SideBegun n put at sides out (put + 1) after written
-  unfolding negation sides_after put_heads
-  side_begins {side} {after} {popped} {written} e f p h w =
-      let is : sides ≡ after ++ side ∷ [] = h ∙ ap (λ (x : Option Side). after ++ option_to_list x) (p ∙ e) in
+  pub side_begins : {side : Side} {after : List Side} {popped : Option Side} {h' : Rewriting} → slice_get sides (length sides - 1) ≡ Some side → side.at ≡ at
+      → popped ≡ slice_get sides (length sides - 1) → sides ≡ after ++ option_to_list popped → EntriesPut (entry 3 side.span ∷ []) h h'
+      → SideBegun at sides after h h'
+  unfolding negation sides_after
+  side_begins {side} {after} e f p is_popped w =
+      let is : sides ≡ after ++ side ∷ [] = is_popped ∙ ap (λ (x : Option Side). after ++ option_to_list x) (p ∙ e) in
       let waits : reverse sides ≡ side ∷ reverse after = ap reverse is ∙ on_top after side in
       let b : eqb side.at at ≡ true = eq-eqb side.at at f in
       let long : length sides ≡ length after + 1 = ap length is ∙ length-append after (side ∷ []) in
-      record {
-        sides_are = rw (waits, b) refl;
-        no_more = omega (arith, long);
-        put_is = rw (waits, b) refl;
-        put_most = omega arith;
-        written = w ∙ rw (waits, b) refl;
-      }
+      record { sides_are = rw (waits, b) refl; no_more = omega (arith, long); put = rw (waits, b) w }
 
 -- the right side that an Or brings, or none
 module _ (s : List ℕ) (l : Layout) (code value : ℕ) (next : Place) (sides : List Side) where

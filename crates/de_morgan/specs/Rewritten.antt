@@ -14,6 +14,7 @@ use Rattle.tape.specs.Scan.{skip_at}
 use Rattle.tape.specs.declared.layout.Layout.{Layout}
 use Rattle.tape.specs.declared.layout.Place.{Place}
 use Rattle.de_morgan.specs.declared.Side.{Side}
+use Rattle.de_morgan.specs.declared.Rewriting.{Rewriting}
 
 -- ------------------------------------------------------------------ right sides that are still to come
 
@@ -84,19 +85,18 @@ rewritten_layout s l = pick (can_rewrite s l) (tape_layout (rewritten_count s l)
 
 -- ------------------------------------------------------------------ parts of the loop
 
+-- entries were put, in the slice that was lent
+pub record EntriesPut (es : List Entry) (h h' : Rewriting) : Type 0 where
+  pub same_slice : h'.out.ghost_name ≡ h.out.ghost_name
+  pub same_n : h'.n ≡ h.n
+  pub next_is : h'.next ≡ h.next + length es
+  pub written : h'.out.now ≡ put_heads h.n h.next es h.out.now
+
 -- The code has the nearest side last. The negation in front of an entry was put, where a right side begins there.
-pub record SideBegun (n put at : ℕ) (sides : List Side) (out : List ℕ) (r : ℕ) (left : List Side) (after : List ℕ) : Type 0 where
+pub record SideBegun (at : ℕ) (sides left : List Side) (h h' : Rewriting) : Type 0 where
   pub sides_are : reverse left ≡ sides_after at (reverse sides)
   pub no_more : length left ≤ length sides
-  pub put_is : r ≡ put + length (negation at (reverse sides))
-  pub put_most : r ≤ put + 1
-  pub written : after ≡ put_heads n put (negation at (reverse sides)) out
-
--- what an entry becomes was put
-pub record EntryPut (n put code value : ℕ) (out : List ℕ) (r : ℕ) (after : List ℕ) : Type 0 where
-  pub put_is : r ≡ put + length (heads_of code value)
-  pub put_most : r ≤ put + 3
-  pub written : after ≡ put_heads n put (heads_of code value) out
+  pub put : EntriesPut (negation at (reverse sides)) h h'
 
 -- the right side that an entry brings was added
 pub record SideAdded (s : List ℕ) (l : Layout) (code value : ℕ) (next : Place) (sides after : List Side) : Type 0 where

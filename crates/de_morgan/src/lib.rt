@@ -10,7 +10,7 @@ ghost use Rattle.arrayvec.specs.ArrayVec.{array_vec_len};
 ghost use Rattle.format.specs.Macro.{tally};
 ghost use Rattle.tape.specs.Ors.{coded, ors_from, ors_in};
 ghost use Rattle.tape.specs.Scan.{skip_at};
-ghost use Rattle.de_morgan.specs.Rewritten.{right_of, heads_from, put_head, put_heads, tape_in, rewritten_in, rewritten_layout, SideBegun, EntryPut, SideAdded};
+ghost use Rattle.de_morgan.specs.Rewritten.{right_of, heads_from, put_heads, tape_in, rewritten_in, rewritten_layout, SideAdded};
 
 use arrayvec::ArrayVec;
 use buffer::{value_bytes, write, write_size};
@@ -23,31 +23,6 @@ use tape::ors::count_held;
 use tape::part::part_of;
 use tape::scan::skip;
 
-// Puts the code and the value of entry `at` of a tape of `n` entries.
-fn put_head(out: &mut [u8], n: usize, at: usize, code: u8, value: u64)
-    requires { (n ≤ 1024) × (at ≤ 4099) }
-    ensures { out.new ≡ put_head n at code value out.old }
-{
-    write(out, 8 + at, &[code]);
-    write(out, 8 + n + 8 * at, &value_bytes(value));
-}
-
-// Puts what an entry becomes from entry `put` on, and answers where the next goes.
-#[tactic(auto, unfolding(crate::specs::Rewritten::heads_of, crate::specs::Rewritten::put_heads))]
-fn put_entry(out: &mut [u8], n: usize, put: usize, code: u8, value: u64) -> usize
-    requires { (n ≤ 1024) × (put ≤ 4097) }
-    ensures { EntryPut n put code value out.old result out.new }
-{
-    if code != code::OR {
-        put_head(out, n, put, code, value);
-        return put + 1;
-    }
-    put_head(out, n, put, code::NOT, value);
-    put_head(out, n, put + 1, code::AND, value);
-    put_head(out, n, put + 2, code::NOT, value);
-    put + 3
-}
-
 // A right side that is still to come: the entry where it begins, and the span of its Or.
 #[derive(Clone, Copy, Debug, PartialEq, Eq, Default)]
 struct Side {
@@ -55,27 +30,59 @@ struct Side {
     span: u64,
 }
 
-// Puts the negation in front of entry `at`, if the nearest right side begins there, and answers where the next entry goes. The nearest is
-// the last that waits: they begin in that order, and at most one at an entry.
-fn begin_side<const N: usize>(
-    out: &mut [u8],
+// The codes and values of a tape of `n` entries, as far as they are put into its buffer, and the entry that comes next.
+#[derive(Drop)]
+struct Rewriting<'a> {
+    out: &'a mut [u8],
     n: usize,
-    put: usize,
-    sides: &mut ArrayVec<Side, N>,
-    at: usize,
-) -> usize
-    requires { (n ≤ 1024) × (put ≤ 4096) }
-    ensures { SideBegun n put at sides.old.items out.old result sides.new.items out.new }
-{
-    let Some(&side) = sides.as_slice().last() else {
-        return put;
-    };
-    if side.at != at {
-        return put;
+    next: usize,
+}
+
+impl Rewriting<'_> {
+    ghost use Rattle.std.specs.Prelude.{[], ◌∷◌, ◌≤◌};
+    ghost use Rattle.format.specs.Entry.{entry};
+    ghost use Rattle.de_morgan.specs.Rewritten.{heads_of, EntriesPut, SideBegun};
+
+    // Puts the next entry's code and value.
+    #[tactic(auto, unfolding(crate::specs::Rewritten::put_heads))]
+    fn put(&mut self, code: u8, value: u64)
+        requires { (self.old.n ≤ 1024) × (self.old.next ≤ 4099) }
+        ensures { EntriesPut (entry code value ∷ []) self.old self.new }
+    {
+        write(self.out, 8 + self.next, &[code]);
+        write(self.out, 8 + self.n + 8 * self.next, &value_bytes(value));
+        self.next += 1;
     }
-    sides.pop();
-    put_head(out, n, put, code::NOT, side.span);
-    put + 1
+
+    // Puts what an entry becomes.
+    #[tactic(auto, unfolding(crate::specs::Rewritten::heads_of))]
+    fn put_entry(&mut self, code: u8, value: u64)
+        requires { (self.old.n ≤ 1024) × (self.old.next ≤ 4097) }
+        ensures { EntriesPut (heads_of code value) self.old self.new }
+    {
+        if code != code::OR {
+            self.put(code, value);
+            return;
+        }
+        self.put(code::NOT, value);
+        self.put(code::AND, value);
+        self.put(code::NOT, value);
+    }
+
+    // Puts the negation in front of entry `at`, if the nearest right side begins there. The nearest is the last that waits: they begin in
+    // that order, and at most one at an entry.
+    fn begin_side<const N: usize>(&mut self, sides: &mut ArrayVec<Side, N>, at: usize)
+        requires { (self.old.n ≤ 1024) × (self.old.next ≤ 4096) }
+        ensures { SideBegun at sides.old.items sides.new.items self.old self.new }
+    {
+        let Some(&side) = sides.as_slice().last() else {
+            return;
+        };
+        if side.at == at {
+            sides.pop();
+            self.put(code::NOT, side.span);
+        }
+    }
 }
 
 // Where the right side of an Or begins whose left side stands at a place. At most 21 Ors stand on a path, since each weighs 3 in the
@@ -115,16 +122,16 @@ fn put_all(out: &mut [u8], n: usize, held: &HeldTape)
     ensures { out.new ≡ put_heads n 0 (heads_from held.now.tape.bytes.now held.now.tape.layout held.now.tape.layout.entries 0 0 []) out.old }
 {
     let tape = &held.tape;
+    let mut rewriting = Rewriting { out, n, next: 0 };
     let mut sides = ArrayVec::<Side, 256>::new();
     let mut text = 0;
-    let mut put = 0;
     // an index, which is what code, value and text of an entry share
     for at in 0..tape.layout.entries {
-        put = begin_side(out, n, put, &mut sides, at);
+        rewriting.begin_side(&mut sides, at);
         let code = held.code_at(at);
         let value = held.value_at(at);
         text = text_behind(tape.layout.size, text, text_width(code, value));
-        put = put_entry(out, n, put, code, value);
+        rewriting.put_entry(code, value);
         add_side(&mut sides, tape, code, value, Place { at: at + 1, text });
     }
 }

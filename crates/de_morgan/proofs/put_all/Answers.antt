@@ -1,21 +1,28 @@
 -- `de_morgan::put_all` meets its contract: `search` stops at one of its limits with the fitting law cited.
 use Prim.Native.Nat.{ℕ, suc, ◌+◌, ◌-◌}
-use mathlib.Core.Path.{◌≡◌, refl, sym, ap, ◌∙◌}
+use mathlib.Core.Path.{◌≡◌, refl, ap, ◌∙◌}
+use mathlib.Core.List.{reverse}
 use native.Mathlib.Omega.{arith}
 use lib.Dec.{eqb}
 use Rattle.format.specs.Limits.{weigh}
 use Rattle.tape.specs.Layouts.{code_at, width_at, text_behind}
 use Rattle.tape.proofs.Counting.{ors_step}
-use Rattle.de_morgan.proofs.Heads.{left_to_put, put_turn}
+use Rattle.de_morgan.proofs.Heads.{put_turn, one_negation, three_heads}
 use Rattle.de_morgan.proofs.put_all.Goals as goal
+
+pub put_entry-requires : goal.put_entry-requires
+put_entry-requires c = let l = c.loop-at in
+    let begun = c.begin_side.ensures.put in (
+      omega (arith, begun.same_n, l.invariant.3, c.requires.0),
+      omega (arith, begun.next_is, one_negation l.at (reverse l.sides.items), l.invariant.2, c.loop-at-test.true, c.args.held.now.held.entries_most),
+    )
 
 pub loop-at-preserved : goal.loop-at-preserved
 loop-at-preserved c = let l = c.loop-at in
     let a = c.args in
-    let p = c.requires in
-    let begun = c.begin_side-put.ensures in
+    let begun = c.begin_side.ensures in
     let code = c.code_at-code in
-    let put = c.put_entry-put.ensures in
+    let put = c.put_entry.ensures in
     let added = c.add_side.ensures in
     let left : a.held.now.tape.layout.entries - l.at ≡ suc (a.held.now.tape.layout.entries - (l.at + 1)) = omega arith in
     let step = ors_step a.held.now.tape.bytes.now a.held.now.tape.layout l.at c.loop-at-test.true a.held.now.held.codes_held in
@@ -24,9 +31,10 @@ loop-at-preserved c = let l = c.loop-at in
     c.text_behind-text.ensures.0 ∙ rw (c.text_width.ensures, code.ensures, c.value_at-value.ensures) refl in (
       c.text_behind-text.ensures.1,
       omega (arith, step, w, l.invariant.1, begun.no_more, added.one_more),
-      omega (arith, l.invariant.2, begun.put_most, put.put_most),
-      put_turn a.held.now.tape.bytes.now a.held.now.tape.layout a.n (a.held.now.tape.layout.entries - (l.at + 1)) l.at l.text l.put l.sides.items l.out
+      omega (arith, l.invariant.2, begun.put.next_is, one_negation l.at (reverse l.sides.items), put.next_is, three_heads code.result c.value_at-value.result),
+      put.same_n ∙ begun.put.same_n ∙ l.invariant.3,
+      put.same_slice ∙ begun.put.same_slice ∙ l.invariant.4,
+      put_turn a.held.now.tape.bytes.now a.held.now.tape.layout (a.held.now.tape.layout.entries - (l.at + 1)) l.at l.text l.sides.items l.rewriting
           begun code.ensures c.value_at-value.ensures text put added
-          ∙ ap (λ (k : ℕ). left_to_put a.held.now.tape.bytes.now a.held.now.tape.layout a.n k l.at l.text l.put l.sides.items l.out) (sym left)
-          ∙ l.invariant.3,
+          ∙ rw left at l.invariant.5,
     )

@@ -8,5 +8,6 @@ use Rattle.de_morgan.proofs.Heads.{left_to_put}
 use Rattle.de_morgan.proofs.put_all.Given as goal
 
 abbrev pub invariant-loop-at : goal.invariant-loop-at
-invariant-loop-at l = (l.text ≤ l.held.tape.layout.size) × (array_vec_len l.sides + ors_from l.held.tape.bytes.now l.held.tape.layout l.at ≤ 256) × (l.put ≤ 4 * l.at)
-    × (left_to_put l.held.tape.bytes.now l.held.tape.layout l.n (l.held.tape.layout.entries - l.at) l.at l.text l.put l.sides.items l.out ≡ left_to_put l.held.tape.bytes.now l.held.tape.layout l.n l.held.tape.layout.entries 0 0 0 [] l.initial.out)
+invariant-loop-at l = (l.text ≤ l.held.tape.layout.size) × (array_vec_len l.sides + ors_from l.held.tape.bytes.now l.held.tape.layout l.at ≤ 256) × (l.rewriting.next ≤ 4 * l.at)
+    × (l.rewriting.n ≡ l.initial.rewriting.n) × (l.rewriting.out.ghost_name ≡ l.initial.rewriting.out.ghost_name)
+    × (left_to_put l.held.tape.bytes.now l.held.tape.layout (l.held.tape.layout.entries - l.at) l.at l.text l.sides.items l.rewriting ≡ left_to_put l.held.tape.bytes.now l.held.tape.layout l.held.tape.layout.entries 0 0 [] l.initial.rewriting)
