@@ -4,7 +4,7 @@ ghost use Rattle.format.specs.Limits.{is_node};
 ghost use Rattle.format.specs.Tape.{is_text, text_width};
 ghost use Rattle.grammar.specs.Kind.{kind_of};
 
-use crate::code;
+use crate::{argument, code};
 
 #[derive(Clone, Copy, Debug, PartialEq, Eq)]
 enum ValueKind {
@@ -14,8 +14,7 @@ enum ValueKind {
     Plain,
 }
 
-// Document 01: "An entry with text has its length as value". One match with ranges is a form that it names. 70 to 72, 74 and 76
-// are a provider's.
+// Document 01: "An entry with text has its length as value". One match with ranges is a form that it names.
 #[tactic(auto, unfolding(format::specs::Tape::is_text, format::specs::Macro::is_code, crate::specs::Kind::is_span, crate::specs::Kind::is_count, crate::specs::Kind::kind_of))]
 fn kind_of(code: u8) -> ValueKind
     ensures { result ≡ kind_of code }
@@ -28,20 +27,20 @@ fn kind_of(code: u8) -> ValueKind
         | code::SLOT_NAME..=code::SLOT_BINDER
         | code::WITHIN_PARAM
         | code::SIGIL_PARAM..=code::SIGIL_BINDER
-        | 72
-        | 74 => ValueKind::Text,
+        | argument::STRING
+        | argument::DECIMAL => ValueKind::Text,
         code::AND..=code::REFINE
         | code::SUM..=code::AGG_CALL
         | code::SPAN
         | code::CALLED
         | code::DEFINITION
-        | 70 => ValueKind::Span,
+        | argument::METHOD_CALL => ValueKind::Span,
         code::CONTEXT_FIELD..=code::SCOPE_FIELD
         | code::ARRAY
         | code::LIST
         | code::TYPE_NAMED
-        | 71
-        | 76 => ValueKind::Count,
+        | argument::FIELD
+        | argument::SET => ValueKind::Count,
         _ => ValueKind::Plain,
     }
 }
@@ -75,8 +74,8 @@ pub fn is_text(code: u8) -> bool
         code::WITHIN_PARAM => true,
         code::SIGIL_PARAM => true,
         code::SIGIL_BINDER => true,
-        72 => true,
-        74 => true,
+        argument::STRING => true,
+        argument::DECIMAL => true,
         _ => false,
     }
 }

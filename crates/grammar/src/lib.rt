@@ -2,6 +2,7 @@
 // what one entry does to the stack of a scan.
 #![tactic(auto)]
 
+pub mod argument;
 pub mod code;
 pub mod codes;
 pub mod count;

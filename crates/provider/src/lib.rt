@@ -11,15 +11,13 @@ ghost use Rattle.provider.specs.Turned.{term_code, argument_code, turned_code, t
 
 use answer::{Answer, long_result, refuse_result, result_written};
 use buffer::{write, write_each, zero_from};
-use grammar::code;
 use grammar::codes::TERM;
 use grammar::provider::{ARGUMENT, ROOT, table};
+use grammar::{argument, code};
 use tape::accept::{accept, accept_by};
 use tape::header::Fault;
 use tape::layout::{Layout, Tape};
 use tape::part::part_of;
-
-mod argument;
 
 // Which of the two a tape's codes become.
 // An enum and no closure: the contract maps a function over the codes, and what a closure promises is a relation.
