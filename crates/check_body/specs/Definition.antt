@@ -13,7 +13,7 @@ use Rattle.walk_state.specs.Reading.{without_message_of, malformed_in}
 use Rattle.check_walk.specs.Walk.{walkers}
 
 abbrev pub declaring : Layout → Place → ℕ → Declaration
-declaring l params count = record { layout = l; params = params; count = count }
+declaring l params count = record { layout = l; params = record { place = params; count = count } }
 
 module _ (s : List ℕ) where
   -- a Cedar body passes unread; a value body's terms have the span 0..0

@@ -12,6 +12,7 @@ use check_parts::Declared;
 use check_walk::{check_temporal_condition_body, check_temporal_value_body};
 use grammar::code;
 use grammar::codes::DEFINITION;
+use message_parts::names::Params;
 use messages::Refused;
 use nodes::{BodyNode, Refusal, past_params, read_body, read_heading};
 use tape::layout::{Place, Tape};
@@ -34,13 +35,14 @@ pub fn check_def(tape: &Tape, p: Place) -> Result<Place, Refused>
     ensures { result ≡ def_in tape.now.bytes.now tape.now.layout p }
 {
     let (heading, params) = read_heading(tape, p, code::DEFINITION)?;
-    let count = heading.count;
-    let body = past_params(tape, params, count).ok_or(Refusal::MALFORMED)?;
+    let body = past_params(tape, params, heading.count).ok_or(Refusal::MALFORMED)?;
     let (node, next) = read_body(tape, body)?;
     let d = Declared {
         tape: *tape,
-        params,
-        count,
+        params: Params {
+            place: params,
+            count: heading.count,
+        },
     };
     check_body(&d, node, next)
 }

@@ -18,18 +18,18 @@ use Rattle.nodes.specs.declared.SlotNode.TheVariants as slot
 use Rattle.nodes.specs.declared.WithinNode.{WithinNode}
 use Rattle.nodes.specs.declared.WithinNode.TheVariants as within
 use Rattle.message_parts.specs.Names.{names_at}
+use Rattle.message_parts.specs.declared.names.Params.{Params}
 use Rattle.messages.specs.declared.Reason.TheVariants.{Undeclared, PlainIdentifier}
 use Rattle.walk_state.specs.Reading.{after, items_in, refused_in, without_message_of, malformed_in, passed_in}
 use Rattle.check_parts.specs.declared.Declared.{Declared}
 
--- How a definition's tape is laid out, and where its parameters stand: what the code's `Declared` has beside the slice.
+-- How a definition's tape is laid out, and its parameters: what the code's `Declared` has beside the slice.
 pub record Declaration : Type 0 where
   pub layout : Layout
-  pub params : Place
-  pub count : ℕ
+  pub params : Params
 
 abbrev pub declaration : Declared → Declaration
-declaration d = record { layout = d.tape.layout; params = d.params; count = d.count }
+declaration d = record { layout = d.tape.layout; params = d.params }
 
 -- "A plain Var or Name slot is 21."
 abbrev pub plain_in : Name → ℕ → Result Place Refused
@@ -38,12 +38,12 @@ plain_in name span = refused_in span (PlainIdentifier name)
 module _ (s : List ℕ) (d : Declaration) where
   -- the declared names
   abbrev pub declared_in : List Text
-  declared_in = names_at s d.layout d.params d.count
+  declared_in = names_at s d.layout d.params.place d.params.count
 
   -- `?name`, in any of its places
   unfoldable pub param_in : ℕ → Name → Place → Result Place Refused
   param_in span name next =
-      pick (contains declared_in (name_at s d.layout name)) (Ok next) (refused_in span (Undeclared name d.params d.count))
+      pick (contains declared_in (name_at s d.layout name)) (Ok next) (refused_in span (Undeclared name d.params))
 
   unfoldable pub sigil_in : ℕ → Sigil → Name → Place → Result Place Refused
   sigil_in span Param name next = param_in span name next

@@ -6,6 +6,7 @@ ghost use Rattle.definition.specs.Check.{contains};
 ghost use Rattle.nodes.specs.Node.{name_at};
 ghost use Rattle.check_parts.specs.Names.{declaration, declared_in, param_in, plain_in, sigil_in, slot_in, within_in, binder_in, binders_in};
 
+use message_parts::names::Params;
 use messages::{Reason, Refused, refuse};
 use nodes::{
     Name, Refusal, Sigil, SlotNode, WithinNode, name_at, past_type, read_param, read_slot,
@@ -14,12 +15,11 @@ use nodes::{
 use tape::layout::{Place, Tape};
 use walk_state::reading::along;
 
-// A definition's tape, and where its parameters stand.
+// A definition's tape and its parameters.
 #[derive(Clone, Copy, Debug)]
 pub struct Declared<'a> {
     pub tape: Tape<'a>,
-    pub params: Place,
-    pub count: u64,
+    pub params: Params,
 }
 
 impl Declared<'_> {
@@ -29,8 +29,8 @@ impl Declared<'_> {
         ensures { result ≡ contains (declared_in self.now.tape.bytes.now (declaration self.now)) (name_at self.now.tape.bytes.now self.now.tape.layout name) }
     {
         let wanted = name_at(&self.tape, name);
-        let mut p = self.params;
-        for _ in 0..self.count {
+        let mut p = self.params.place;
+        for _ in 0..self.params.count {
             let Some((param, next)) = read_param(&self.tape, p) else {
                 return false;
             };
@@ -50,7 +50,7 @@ impl Declared<'_> {
         if self.contains(name) {
             Ok(next)
         } else {
-            Err(refuse(span, Reason::Undeclared(name, self.params, self.count)))
+            Err(refuse(span, Reason::Undeclared(name, self.params)))
         }
     }
 

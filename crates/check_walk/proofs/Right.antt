@@ -134,10 +134,10 @@ module _ (s : List ℕ) (d : Declaration) (names : List Text) (declared : declar
   unfolding param_in check_param message_of
   param_right {n} span name {next} e = rw (declared, e) (go (contains names n))
     where
-      go : (b : Bool) → Finds s d.layout (pick b (Ok next) (refused_in span (Undeclared name d.params d.count))) next
+      go : (b : Bool) → Finds s d.layout (pick b (Ok next) (refused_in span (Undeclared name d.params))) next
           (elim b [ true ↦ none | false ↦ some (refusal 20 span (undeclared_parameter n names)) ])
       go true = passes refl
-      go false = refuses_as (Undeclared name d.params d.count) refl refl refl (rw (declared, e))
+      go false = refuses_as (Undeclared name d.params) refl refl refl (rw (declared, e))
 
   plain_right : {n : Text} (span : ℕ) (name : Name) {end : Place} → name_at s d.layout name ≡ n
       → Finds s d.layout (plain_in name span) end (plain_ident_in_body n span)

@@ -1,4 +1,4 @@
--- The walkers one level down, where a level is left and where none is; and the items of a list, one at a time.
+-- The walkers one level down, where a level is left; and the items of a list, one at a time.
 -- Assumes nothing.
 use Rattle.std.proofs.Common.{Result, Err}
 use Prim.Native.Nat.{ℕ, zero, suc, ◌+◌, ◌-◌, ◌≤◌, ◌<◌}
@@ -24,7 +24,7 @@ use Rattle.walk_state.specs.Walk as walk
 use Rattle.expand_stray.specs.Concrete.{concrete_fields_in}
 use Rattle.expand_calls.specs.Output.{Reads, Progress, progress, going_at, Expands}
 use Rattle.expand_calls.specs.Calls.{outcome_in}
-use Rattle.expand_walk.specs.Walkers.{Walkers, items_in, value_arg_in, on_condition, on_operand, on_agg, deeper, exhausted, walkers}
+use Rattle.expand_walk.specs.Walkers.{Walkers, items_in, value_arg_in, on_condition, on_operand, on_agg, deeper, walkers}
 
 -- ------------------------------------------------------------------ items
 
@@ -93,24 +93,6 @@ module _ (R : Reads) (n : ℕ) (work result : List ℕ) where
         by_level : (n : ℕ) → (walkers R n).operand (progress (walk.Refused r charged) work result) ≡ progress (walk.Refused r charged) work result
         by_level zero = refl
         by_level (suc n) = refl
-
-  -- no nesting is left
-  module _ (z : n ≡ 0) (st : State) where
-    pub none_condition : (walkers R n).condition (progress (walk.Going st) work result) ≡ exhausted R st work result
-    unfolding walkers
-    none_condition = rw z
-
-    pub none_operand : (walkers R n).operand (progress (walk.Going st) work result) ≡ exhausted R st work result
-    unfolding walkers
-    none_operand = rw z
-
-    pub none_agg : (p : Place) → (walkers R n).agg st p work result ≡ exhausted R st work result
-    unfolding walkers
-    none_agg p = rw z
-
-    pub none_value : (p : Place) → (walkers R n).value_arg st p work result ≡ exhausted R st work result
-    unfolding walkers
-    none_value p = rw z
 
   -- one level down
   module _ (h : n ≡ 0 → ⊥) (st : State) where

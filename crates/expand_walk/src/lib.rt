@@ -1,5 +1,6 @@
-// The walk over a condition: what has no macro in it is copied, and a call becomes what its macro makes of it. `n` is the nesting that is
-// left. The functions stand in the Rust's order and have the Rust's names without their `temporal_`, each with its helpers behind it.
+// The walk over a condition: what has no macro in it is copied, and a call becomes what its macro makes of it. `nesting` is what is left
+// of it where a node is read, and `n` what is left below the node. The functions stand in the Rust's order and have the Rust's names
+// without their `temporal_`, each with its helpers behind it.
 #![tactic(auto)]
 
 ghost use Rattle.std.specs.Prelude.{◌≡◌, Ok};
@@ -31,20 +32,18 @@ use walk_state::writing::Cursor;
 
 // The Rust's `expand_temporal_condition`.
 #[cycle(walk)]
-#[tactic(auto, using(crate::proofs::Walking::none_condition, crate::proofs::Walking::down_condition), unfolding(nodes::specs::Node::span_of))]
+#[tactic(auto, using(crate::proofs::Walking::down_condition), unfolding(nodes::specs::Node::span_of))]
 pub fn expand_condition(
-    n: usize,
+    nesting: usize,
     x: &Expansion,
     c: &mut Cursor,
     res: &mut [u8],
 ) -> Result<(), Refused>
-    ensures { Expands c.old c.new result res.new ((walkers (reads_of x.now) n).condition (going_at c.old res.old)) }
+    ensures { Expands c.old c.new result res.new ((walkers (reads_of x.now) nesting).condition (going_at c.old res.old)) }
 {
-    if n == 0 {
-        return Err(Refused::TOO_DEEP);
-    }
+    let n = nesting.checked_sub(1).ok_or(Refused::TOO_DEEP)?;
     let (node, next) = read_condition(&x.condition, c.place)?;
-    condition(n - 1, x, c, res, node, next)
+    condition(n, x, c, res, node, next)
 }
 
 // The condition whose own entries end at `next`.
@@ -205,30 +204,28 @@ fn refine(
 
 // The Rust's `expand_temporal_agg`: the aggregate behind a 30, which stands at `p`. A call takes the whole term's place.
 #[cycle(walk)]
-#[tactic(auto, using(crate::proofs::Walking::none_agg, crate::proofs::Walking::down_agg), unfolding(crate::specs::Walkers::agg_node_in, nodes::specs::Node::agg_at, nodes::specs::Node::span_of, nodes::specs::Node::refusal_of))]
+#[tactic(auto, using(crate::proofs::Walking::down_agg), unfolding(crate::specs::Walkers::agg_node_in, nodes::specs::Node::agg_at, nodes::specs::Node::span_of, nodes::specs::Node::refusal_of))]
 fn expand_agg(
-    n: usize,
+    nesting: usize,
     x: &Expansion,
     c: &mut Cursor,
     res: &mut [u8],
     p: Place,
 ) -> Result<(), Refused>
-    ensures { Expands c.old c.new result res.new ((walkers (reads_of x.now) n).agg (one.state_at c.old) p c.old.bytes.now res.old) }
+    ensures { Expands c.old c.new result res.new ((walkers (reads_of x.now) nesting).agg (one.state_at c.old) p c.old.bytes.now res.old) }
 {
-    if n == 0 {
-        return Err(Refused::TOO_DEEP);
-    }
+    let n = nesting.checked_sub(1).ok_or(Refused::TOO_DEEP)?;
     let (node, next) = read_agg(&x.condition, p)?;
     match node {
         AggNode::Sum(span) => {
             let found = check_sum(&x.condition, span, next);
-            inner(n - 1, x, c, res, found)
+            inner(n, x, c, res, found)
         }
         AggNode::Count(span) => {
             let found = check_concrete_binders(&x.condition, span, next);
-            inner(n - 1, x, c, res, found)
+            inner(n, x, c, res, found)
         }
-        AggNode::Call(_) => expand_call_to_value(n - 1, x, c, res, next),
+        AggNode::Call(_) => expand_call_to_value(n, x, c, res, next),
     }
 }
 
@@ -243,15 +240,18 @@ fn check_sum(cond: &Tape, span: u64, p: Place) -> Result<Place, Refused>
 
 // The Rust's `expand_temporal_operand`.
 #[cycle(walk)]
-#[tactic(auto, using(crate::proofs::Walking::none_operand, crate::proofs::Walking::down_operand), unfolding(nodes::specs::Node::span_of))]
-fn expand_operand(n: usize, x: &Expansion, c: &mut Cursor, res: &mut [u8]) -> Result<(), Refused>
-    ensures { Expands c.old c.new result res.new ((walkers (reads_of x.now) n).operand (going_at c.old res.old)) }
+#[tactic(auto, using(crate::proofs::Walking::down_operand), unfolding(nodes::specs::Node::span_of))]
+fn expand_operand(
+    nesting: usize,
+    x: &Expansion,
+    c: &mut Cursor,
+    res: &mut [u8],
+) -> Result<(), Refused>
+    ensures { Expands c.old c.new result res.new ((walkers (reads_of x.now) nesting).operand (going_at c.old res.old)) }
 {
-    if n == 0 {
-        return Err(Refused::TOO_DEEP);
-    }
+    let n = nesting.checked_sub(1).ok_or(Refused::TOO_DEEP)?;
     let (node, next) = read_term(&x.condition, c.place)?;
-    operand(n - 1, x, c, res, node, next)
+    operand(n, x, c, res, node, next)
 }
 
 // Of a term only aggregates, arithmetic and calls are entered.
@@ -397,23 +397,21 @@ fn cond_arg(
 
 // The bare call at a place, as a term.
 #[cycle(walk)]
-#[tactic(auto, using(crate::proofs::Walking::none_value, crate::proofs::Walking::down_value), unfolding(crate::specs::Walkers::value_arg_in, nodes::specs::Node::span_of, nodes::specs::Node::refusal_of))]
+#[tactic(auto, using(crate::proofs::Walking::down_value), unfolding(crate::specs::Walkers::value_arg_in, nodes::specs::Node::span_of, nodes::specs::Node::refusal_of))]
 fn value_arg(
-    n: usize,
+    nesting: usize,
     x: &Expansion,
     c: &mut Cursor,
     res: &mut [u8],
     p: Place,
 ) -> Result<(), Refused>
-    ensures { Expands c.old c.new result res.new ((walkers (reads_of x.now) n).value_arg (one.state_at c.old) p c.old.bytes.now res.old) }
+    ensures { Expands c.old c.new result res.new ((walkers (reads_of x.now) nesting).value_arg (one.state_at c.old) p c.old.bytes.now res.old) }
 {
-    if n == 0 {
-        return Err(Refused::TOO_DEEP);
-    }
+    let n = nesting.checked_sub(1).ok_or(Refused::TOO_DEEP)?;
     let (_, call) = expect(&x.condition, p, code::CALL).ok_or(Refusal::MALFORMED)?;
     c.put(code::ARG_TERM, 0);
     c.place = p;
-    expand_call_to_value(n - 1, x, c, res, call)
+    expand_call_to_value(n, x, c, res, call)
 }
 
 // The Rust's `expand_temporal_call_to_value`.

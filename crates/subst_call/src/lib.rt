@@ -10,6 +10,7 @@ ghost use Rattle.subst_call.specs.Front.{macro_from, macro_at, wrong_count, char
 
 use grammar::code;
 use grammar::codes::{CONDITION, TERM};
+use message_parts::names::Params;
 use messages::{Reason, Refused, refuse};
 use nodes::{BodyNode, Heading, Refusal, past_params, read_body, read_heading};
 use subst_state::maps::{Argument, Substitution, find_arguments};
@@ -145,8 +146,10 @@ pub fn substitute_call<'a>(
         definition: *definition,
         call: *call,
         args: &args,
-        params: called.params,
-        count: called.head.count,
+        params: Params {
+            place: called.params,
+            count: called.head.count,
+        },
         macro_name: called.head.name,
         call_span: head.span,
         limit,

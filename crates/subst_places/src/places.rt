@@ -29,6 +29,8 @@ fn is_interval(arg: Argument) -> bool
     has_root(arg, code::SECONDS, code::DAYS) | has_root(arg, code::WEEKS, code::WEEKS)
 }
 
+// What a place says where the search finds no parameter. Each of the four places asks by `let .. else`, since document 01 names that form
+// for the parameter search in each of them.
 fn unbound(s: &Substitution, span: u64, name: Name) -> Refused
     ensures { result ≡ unbound_at (maps_at s.now) span name }
 {

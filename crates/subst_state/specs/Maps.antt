@@ -24,8 +24,8 @@ maps_at s =
     record {
       definition = s.definition.layout;
       call = s.call.layout;
-      params = s.params;
-      count = s.count;
+      params = s.params.place;
+      count = s.params.count;
       macro_name = s.macro_name;
       call_span = s.call_span;
       limit = s.limit;

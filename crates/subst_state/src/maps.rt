@@ -5,20 +5,20 @@ ghost use Rattle.subst_state.specs.Arguments.{sort_of, measure_at, table_from, a
 ghost use Rattle.subst_state.specs.Output.{charge_of};
 
 use grammar::codes::{CONDITION, INTERVAL, TERM};
+use message_parts::names::Params;
 use nodes::{ArgNode, Name, entry, name_at, read_argument, read_param};
 use tape::layout::{Place, Tape};
 use tape::scan::skip;
 use tape::text::size;
 
 // The Rust's `SubstMaps` with the tapes that they speak of: the definition's and the call's, the call's arguments, found and measured
-// once, where the parameters stand and how many they are, and what messages, charges and generated names want.
+// once, the parameters, and what messages, charges and generated names want.
 #[derive(Clone, Copy, Debug)]
 pub struct Substitution<'a> {
     pub definition: Tape<'a>,
     pub call: Tape<'a>,
     pub args: &'a [Argument],
-    pub params: Place,
-    pub count: u64,
+    pub params: Params,
     pub macro_name: Name,
     pub call_span: u64,
     pub limit: u32,
@@ -51,8 +51,8 @@ impl Substitution<'_> {
         ensures { result ≡ arg_for self.now.definition.bytes.now self.now.args.now (maps_at self.now) name }
     {
         let mut found = None;
-        let mut p = self.params;
-        for i in 0..self.count {
+        let mut p = self.params.place;
+        for i in 0..self.params.count {
             let Some((param, next)) = read_param(&self.definition, p) else {
                 return found;
             };
@@ -112,17 +112,12 @@ pub fn find_arguments(tape: &Tape, first: Place, count: u64, args: &mut [Argumen
     ensures { args.new ≡ table_from tape.now.bytes.now tape.now.layout count first 0 args.old }
 {
     let mut p = first;
-    let mut k: usize = 0;
-    for _ in 0..count {
-        if args.len() <= k {
-            return;
-        }
+    for k in 0..args.len().min(count as usize) {
         let Some(a) = measure(tape, p) else {
             return;
         };
         args[k] = a;
         p = a.to;
-        k += 1;
     }
 }
 

@@ -10,8 +10,9 @@ use tape::layout::{Layout, Place, Tape};
 use tape::part::{behind, part_of, values_behind};
 use walk_state::writing::Cursor;
 
-// The `len` bytes from `start` on of one of two lent tapes, of the call's or else of the definition's, as far as it reaches. A run to be
-// copied comes from either (document 01).
+// The `len` bytes from `start` on of one of two lent tapes, of the call's or else of the definition's, as far as it reaches. `of_call`
+// and both tapes go down to here from `copy`, since document 01 names the form: a run to be copied comes from either tape, and one
+// function returns a part of one of two lent tapes.
 fn part<'a>(
     definition: &Tape<'a>,
     call: &Tape<'a>,

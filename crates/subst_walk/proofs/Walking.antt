@@ -1,4 +1,4 @@
--- The three walkers: a refusal is handed on, no nesting is left, or a node is entered with one level less.
+-- The three walkers: a refusal is handed on, or a node is entered with one level less.
 -- Assumes nothing.
 use Prim.Native.Nat.{ℕ, zero, suc, ◌-◌}
 use native.Mathlib.Omega.{arith}
@@ -10,7 +10,7 @@ use Rattle.messages.specs.Reason.{without_message}
 use Rattle.subst_places.proofs.Unread.{condition_unread, term_unread}
 use Rattle.nodes.specs.Node.{refusal_of, span_of, condition_at, term_at, agg_at}
 use Rattle.messages.specs.declared.Refused.{Refused}
-use Rattle.walk_state.specs.Writing.{progress, without_message_at, state_at, going_at, Walks}
+use Rattle.walk_state.specs.Writing.{progress, state_at, going_at, Walks}
 use Rattle.walk_state.specs.declared.writing.Cursor.{Cursor}
 use Rattle.subst_places.specs.Parameters.{Tapes, binders_in}
 use Rattle.subst_walk.specs.Walkers.{Walkers, on_condition, on_agg, on_term, deeper, walkers}
@@ -28,18 +28,10 @@ module _ (T : Tapes) (bytes : List ℕ) where
   hands_on_condition zero r k = refl
   hands_on_condition (suc n) r k = refl
 
-  pub too_deep_condition : (st : State) → (walkers T 0).condition (progress (walk.Going st) bytes) ≡ progress (without_message_at 3 0 st.charged) bytes
-  unfolding walkers
-  too_deep_condition st = refl
-
   pub one_down_condition : (n : ℕ) (st : State) → (n ≡ 0 → ⊥) → (walkers T n).condition (progress (walk.Going st) bytes) ≡ on_condition T (walkers T (n - 1)) st bytes (condition_at T.definition T.maps.definition st.place)
   one_down_condition n st h = ap (λ (W : Walkers). W.condition (progress (walk.Going st) bytes)) (one_down n h)
 
   -- aggregates
-  pub too_deep_agg : (st : State) → (walkers T 0).agg (progress (walk.Going st) bytes) ≡ progress (without_message_at 3 0 st.charged) bytes
-  unfolding walkers
-  too_deep_agg st = refl
-
   pub one_down_agg : (n : ℕ) (st : State) → (n ≡ 0 → ⊥) → (walkers T n).agg (progress (walk.Going st) bytes) ≡ on_agg T (walkers T (n - 1)) st bytes (agg_at T.definition T.maps.definition st.place)
   one_down_agg n st h = ap (λ (W : Walkers). W.agg (progress (walk.Going st) bytes)) (one_down n h)
 
@@ -48,10 +40,6 @@ module _ (T : Tapes) (bytes : List ℕ) where
   unfolding walkers
   hands_on_term zero span r k = refl
   hands_on_term (suc n) span r k = refl
-
-  pub too_deep_term : (span : ℕ) (st : State) → (walkers T 0).term span (progress (walk.Going st) bytes) ≡ progress (without_message_at 3 0 st.charged) bytes
-  unfolding walkers
-  too_deep_term span st = refl
 
   pub one_down_term : (n : ℕ) (span : ℕ) (st : State) → (n ≡ 0 → ⊥) → (walkers T n).term span (progress (walk.Going st) bytes) ≡ on_term T (walkers T (n - 1)) span st bytes (term_at T.definition T.maps.definition st.place)
   one_down_term n span st h = ap (λ (W : Walkers). W.term span (progress (walk.Going st) bytes)) (one_down n h)

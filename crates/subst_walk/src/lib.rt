@@ -1,5 +1,6 @@
-// The walk over a body: its own entries are copied, and a sigil becomes what the call gives for it. `n` is the nesting that is left.
-// When the output is full the walk goes on, since a refusal that it meets later comes first.
+// The walk over a body: its own entries are copied, and a sigil becomes what the call gives for it. `nesting` is what is left
+// of it where a node is read, and `n` what is left below the node. When the output is full the walk goes on, since a refusal that it
+// meets later comes first.
 #![tactic(auto)]
 
 ghost use Rattle.walk_state.specs.Writing.{Walks, state_at, going_at};
@@ -20,16 +21,18 @@ use subst_state::maps::Substitution;
 use tape::layout::Place;
 use walk_state::writing::Cursor;
 
-#[tactic(auto, using(crate::proofs::Walking::too_deep_condition, crate::proofs::Walking::one_down_condition))]
+#[tactic(auto, using(crate::proofs::Walking::one_down_condition))]
 #[cycle(walk)]
-pub fn subst_temporal_condition(n: usize, s: &Substitution, c: &mut Cursor) -> Result<(), Refused>
-    ensures { Walks c.old c.new result ((walkers (tapes_of s.now) n).condition (going_at c.old)) }
+pub fn subst_temporal_condition(
+    nesting: usize,
+    s: &Substitution,
+    c: &mut Cursor,
+) -> Result<(), Refused>
+    ensures { Walks c.old c.new result ((walkers (tapes_of s.now) nesting).condition (going_at c.old)) }
 {
-    if n == 0 {
-        return Err(Refused::TOO_DEEP);
-    }
+    let n = nesting.checked_sub(1).ok_or(Refused::TOO_DEEP)?;
     let (node, next) = read_condition(&s.definition, c.place)?;
-    condition(n - 1, s, c, node, next)
+    condition(n, s, c, node, next)
 }
 
 #[tactic(auto, unfolding(crate::specs::Walkers::condition_node_in))]
@@ -225,16 +228,14 @@ fn inject(
     fold_refine(c, base, count, own, shape)
 }
 
-#[tactic(auto, using(crate::proofs::Walking::too_deep_agg, crate::proofs::Walking::one_down_agg), unfolding(crate::specs::Walkers::on_agg, nodes::specs::Node::agg_at, nodes::specs::Node::span_of, nodes::specs::Node::refusal_of))]
+#[tactic(auto, using(crate::proofs::Walking::one_down_agg), unfolding(crate::specs::Walkers::on_agg, nodes::specs::Node::agg_at, nodes::specs::Node::span_of, nodes::specs::Node::refusal_of))]
 #[cycle(walk)]
-fn subst_temporal_agg(n: usize, s: &Substitution, c: &mut Cursor) -> Result<(), Refused>
-    ensures { Walks c.old c.new result ((walkers (tapes_of s.now) n).agg (going_at c.old)) }
+fn subst_temporal_agg(nesting: usize, s: &Substitution, c: &mut Cursor) -> Result<(), Refused>
+    ensures { Walks c.old c.new result ((walkers (tapes_of s.now) nesting).agg (going_at c.old)) }
 {
-    if n == 0 {
-        return Err(Refused::TOO_DEEP);
-    }
+    let n = nesting.checked_sub(1).ok_or(Refused::TOO_DEEP)?;
     let (node, next) = read_agg(&s.definition, c.place)?;
-    agg(n - 1, s, c, node, next)
+    agg(n, s, c, node, next)
 }
 
 #[tactic(auto, using(crate::proofs::Walking::hands_on_condition, crate::proofs::Walking::hands_on_binders), unfolding(crate::specs::Walkers::agg_node_in))]
@@ -264,21 +265,19 @@ fn agg(
     }
 }
 
-#[tactic(auto, using(crate::proofs::Walking::too_deep_term, crate::proofs::Walking::one_down_term))]
+#[tactic(auto, using(crate::proofs::Walking::one_down_term))]
 #[cycle(walk)]
 pub fn subst_temporal_term(
-    n: usize,
+    nesting: usize,
     s: &Substitution,
     c: &mut Cursor,
     span: u64,
 ) -> Result<(), Refused>
-    ensures { Walks c.old c.new result ((walkers (tapes_of s.now) n).term span (going_at c.old)) }
+    ensures { Walks c.old c.new result ((walkers (tapes_of s.now) nesting).term span (going_at c.old)) }
 {
-    if n == 0 {
-        return Err(Refused::TOO_DEEP);
-    }
+    let n = nesting.checked_sub(1).ok_or(Refused::TOO_DEEP)?;
     let (node, next) = read_term(&s.definition, c.place)?;
-    term(n - 1, s, c, span, node, next)
+    term(n, s, c, span, node, next)
 }
 
 #[tactic(auto, unfolding(crate::specs::Walkers::term_node_in))]

@@ -11,7 +11,7 @@ abbrev pub decreases-arg : goal.decreases-arg
 decreases-arg l = l.n * 8 + 3
 
 abbrev pub decreases-value_arg : goal.decreases-value_arg
-decreases-value_arg l = l.n * 8
+decreases-value_arg l = l.nesting * 8
 
 abbrev pub decreases-both : goal.decreases-both
 decreases-both l = l.n * 8 + 1
@@ -26,7 +26,7 @@ abbrev pub decreases-condition : goal.decreases-condition
 decreases-condition l = l.n * 8 + 7
 
 abbrev pub decreases-expand_agg : goal.decreases-expand_agg
-decreases-expand_agg l = l.n * 8
+decreases-expand_agg l = l.nesting * 8
 
 abbrev pub decreases-expand_call_args : goal.decreases-expand_call_args
 decreases-expand_call_args l = l.n * 8 + 4
@@ -38,10 +38,10 @@ abbrev pub decreases-expand_call_to_value : goal.decreases-expand_call_to_value
 decreases-expand_call_to_value l = l.n * 8 + 6
 
 abbrev pub decreases-expand_condition : goal.decreases-expand_condition
-decreases-expand_condition l = l.n * 8
+decreases-expand_condition l = l.nesting * 8
 
 abbrev pub decreases-expand_operand : goal.decreases-expand_operand
-decreases-expand_operand l = l.n * 8
+decreases-expand_operand l = l.nesting * 8
 
 abbrev pub decreases-inner : goal.decreases-inner
 decreases-inner l = l.n * 8 + 1

@@ -45,13 +45,13 @@ abbrev pub decreases-since : goal.decreases-since
 decreases-since l = l.n * 8 + 1
 
 abbrev pub decreases-subst_temporal_agg : goal.decreases-subst_temporal_agg
-decreases-subst_temporal_agg l = l.n * 8
+decreases-subst_temporal_agg l = l.nesting * 8
 
 abbrev pub decreases-subst_temporal_condition : goal.decreases-subst_temporal_condition
-decreases-subst_temporal_condition l = l.n * 8
+decreases-subst_temporal_condition l = l.nesting * 8
 
 abbrev pub decreases-subst_temporal_term : goal.decreases-subst_temporal_term
-decreases-subst_temporal_term l = l.n * 8
+decreases-subst_temporal_term l = l.nesting * 8
 
 abbrev pub decreases-term : goal.decreases-term
 decreases-term l = l.n * 8 + 2

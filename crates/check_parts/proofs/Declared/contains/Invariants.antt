@@ -8,4 +8,4 @@ use Rattle.check_parts.specs.Names.{declaration, declared_in}
 use Rattle.check_parts.proofs.Declared.contains.Given as goal
 
 abbrev pub invariant-loop : goal.invariant-loop
-invariant-loop l = contains (names_at l.self.tape.bytes.now l.self.tape.layout l.p (l.self.count - l.counter)) (name_at l.self.tape.bytes.now l.self.tape.layout l.fn.name) ≡ contains (declared_in l.self.tape.bytes.now (declaration l.self)) (name_at l.self.tape.bytes.now l.self.tape.layout l.fn.name)
+invariant-loop l = contains (names_at l.self.tape.bytes.now l.self.tape.layout l.p (l.self.params.count - l.counter)) (name_at l.self.tape.bytes.now l.self.tape.layout l.fn.name) ≡ contains (declared_in l.self.tape.bytes.now (declaration l.self)) (name_at l.self.tape.bytes.now l.self.tape.layout l.fn.name)

@@ -4,5 +4,5 @@ use mathlib.Core.Path.{◌≡◌}
 use Rattle.subst_state.specs.Arguments.{table_from}
 use Rattle.subst_state.proofs.maps.find_arguments.Given as goal
 
-abbrev pub invariant-loop : goal.invariant-loop
-invariant-loop l = table_from l.tape.bytes.now l.tape.layout (l.count - l.counter) l.p l.k l.args ≡ table_from l.tape.bytes.now l.tape.layout l.count l.fn.first 0 l.fn.args
+abbrev pub invariant-loop-k : goal.invariant-loop-k
+invariant-loop-k l = table_from l.tape.bytes.now l.tape.layout (l.count - l.k) l.p l.k l.args ≡ table_from l.tape.bytes.now l.tape.layout l.count l.fn.first 0 l.fn.args

@@ -6,5 +6,5 @@ use Rattle.subst_state.specs.Arguments.{search_from}
 use Rattle.subst_state.proofs.maps.Substitution.arg_for.Given as goal
 
 abbrev pub invariant-loop-i : goal.invariant-loop-i
-invariant-loop-i l = search_from l.self.definition.bytes.now l.self.definition.layout l.self.args.now l.name (l.self.count - l.i) l.p l.i l.found
-    ≡ search_from l.self.definition.bytes.now l.self.definition.layout l.self.args.now l.name l.self.count l.self.params 0 None
+invariant-loop-i l = search_from l.self.definition.bytes.now l.self.definition.layout l.self.args.now l.name (l.self.params.count - l.i) l.p l.i l.found
+    ≡ search_from l.self.definition.bytes.now l.self.definition.layout l.self.args.now l.name l.self.params.count l.self.params.place 0 None
