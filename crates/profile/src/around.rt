@@ -73,8 +73,8 @@ pub fn nearest(around: &[Around]) -> u64
 }
 
 // The next item is no more to come.
-fn take_item(around: &mut ArrayVec<Around, 17>)
-    requires { array_vec_len around.old ≤ 17 }
+fn take_item<const N: usize>(around: &mut ArrayVec<Around, N>)
+    requires { array_vec_len around.old ≤ N }
     ensures { Moved around.old.items around.new.items (drop 1 (spans_in (reverse around.old.items))) 0 }
 {
     let Some(condition) = around.pop() else {
@@ -86,8 +86,8 @@ fn take_item(around: &mut ArrayVec<Around, 17>)
 }
 
 // The items of a condition come next.
-fn add_items(around: &mut ArrayVec<Around, 17>, count: u64, span: u64)
-    requires { array_vec_len around.old < 17 }
+fn add_items<const N: usize>(around: &mut ArrayVec<Around, N>, count: u64, span: u64)
+    requires { array_vec_len around.old < N }
     ensures { Moved around.old.items around.new.items (replicate count span ++ spans_in (reverse around.old.items)) 1 }
 {
     if let Some(more) = count.checked_sub(1) {
@@ -97,8 +97,8 @@ fn add_items(around: &mut ArrayVec<Around, 17>, count: u64, span: u64)
 
 // What is still to come behind an entry: an argument's 55 or 57 leaves its item to what it holds.
 #[tactic(auto, using(crate::proofs::Lists::passed_end, crate::proofs::Lists::passed_other))]
-pub fn pass_entry(around: &mut ArrayVec<Around, 17>, e: Head)
-    requires { (array_vec_len around.old ≤ 17) × (is_condition e.code ≡ true → array_vec_len around.old < 17) }
+pub fn pass_entry<const N: usize>(around: &mut ArrayVec<Around, N>, e: Head)
+    requires { (array_vec_len around.old ≤ N) × (is_condition e.code ≡ true → array_vec_len around.old < N) }
     ensures { Moved around.old.items around.new.items (spans_after e (spans_in (reverse around.old.items))) (weigh (is_node e.code)) }
 {
     if is_condition(e.code) {

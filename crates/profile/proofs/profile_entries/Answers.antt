@@ -14,4 +14,4 @@ loop-at-init c =
 
 pub pass_entry-requires : goal.pass_entry-requires
 pass_entry-requires c =
-    (omega (arith, c.loop-at.invariant.0, c.loop-at.invariant.1), shallow_enough _ _ c.head_at-e.result c.loop-at.invariant.0 c.loop-at.invariant.1 (cc))
+    (omega arith, (omega (arith, c.loop-at.invariant.0, c.loop-at.invariant.1), shallow_enough _ _ c.head_at-e.result c.loop-at.invariant.0 c.loop-at.invariant.1 (cc)))

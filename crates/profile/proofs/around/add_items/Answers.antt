@@ -4,4 +4,4 @@ use Rattle.profile.proofs.Lists.{added_some}
 use Rattle.profile.proofs.around.add_items.Goals as goal
 
 pub returns-in-Some : goal.returns-in-Some
-returns-in-Some c = added_some _ _ _ c.in-Some.more (omega (arith, c.in-Some.ensures)) c.push.ensures.items
+returns-in-Some g c = added_some _ _ _ c.in-Some.more (omega (arith, c.in-Some.ensures)) c.push.ensures.items

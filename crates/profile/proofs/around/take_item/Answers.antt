@@ -8,12 +8,12 @@ use Rattle.profile.proofs.Lists.{taken_none, taken_last, taken_one}
 use Rattle.profile.proofs.around.take_item.Goals as goal
 
 pub returns-in_default : goal.returns-in_default
-returns-in_default c =
+returns-in_default g c =
     taken_none _ (sym c.pop.ensures.value ∙ c.in_default.is) (ap (λ (v : ArrayVec Around). v.items) (rw c.in_default.is at c.pop.ensures.empty))
 
 pub returns-in-Some-checked_sub : goal.returns-in-Some-checked_sub
-returns-in-Some-checked_sub c =
+returns-in-Some-checked_sub g c =
     taken_one _ _ _ c.in-Some.ensures.items c.in-Some-checked_sub.more (omega (arith, c.in-Some-checked_sub.ensures)) c.push.ensures.items
 
 pub returns-in_default-checked_sub : goal.returns-in_default-checked_sub
-returns-in_default-checked_sub c = taken_last _ _ _ c.in-Some.ensures.items (omega (arith, c.in_default-checked_sub.ensures))
+returns-in_default-checked_sub g c = taken_last _ _ _ c.in-Some.ensures.items (omega (arith, c.in_default-checked_sub.ensures))
