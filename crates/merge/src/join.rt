@@ -51,7 +51,8 @@ fn join_one(first: &Index, t: &Tape, c: &mut Cursor) -> Result<(), Refused>
     Ok(())
 }
 
-// The next `n` definitions of the second registry.
+// The next `n` definitions of the second registry. Only their number is at hand: each begins where the cursor has come behind the one
+// before, so there is nothing to iterate over.
 #[tactic(auto, using(crate::proofs::Steps::join_next, crate::proofs::Steps::join_stopped, crate::proofs::Steps::join_done))]
 fn join_all(first: &Index, t: &Tape, c: &mut Cursor, n: u64) -> Result<(), Refused>
     ensures { Walks c.old c.new result (join_in first.now.tape.bytes.now first.now.tape.layout first.now.rows.now t.now.bytes.now t.now.layout n (going_at c.old)) }
