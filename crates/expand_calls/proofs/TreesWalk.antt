@@ -1,7 +1,7 @@
 -- What a walk of an expansion gives where a tree stands: the entries of the expanded tree behind those that were written, or the refusal
 -- of the tree's definition. A walk writes to its own area and to those above it.
 -- Assumes nothing.
-use Rattle.std.proofs.Common.{Some}
+use Rattle.std.proofs.Common.{Some, Ok}
 use Prim.Native.Nat.{ℕ, ◌+◌, ◌*◌, ◌≤◌}
 use native.Mathlib.Omega.{arith}
 use mathlib.Core.Path.{◌≡◌, refl, sym, ap, subst, ◌∙◌}
@@ -16,9 +16,9 @@ use Rattle.tape.specs.declared.layout.Place.{Place}
 use Rattle.area.specs.Area.{Area, Within}
 use Rattle.messages.specs.declared.Refused.{Refused}
 use Rattle.answer.specs.Matches.{RefusalMatches}
-use Rattle.walk_state.specs.Writing.{state}
+use Rattle.walk_state.specs.Writing.{state, place_of}
 use Rattle.walk_state.specs.Walk as walk
-use Rattle.subst_places.specs.Parameters.{behind_in}
+use Rattle.walk_state.specs.Reading.{passed_in, behind_in}
 use Rattle.subst_places.proofs.TreesWalk.{Written, rewritten}
 use Rattle.expand_calls.specs.Output.{Reads, Progress, progress}
 
@@ -113,10 +113,10 @@ module _ (R : Reads) where
 
     -- the left side of a Since ends where its walk comes and where a skip comes
     pub gives_behind : (s : List ℕ) (l : Layout) (left : Place) {end : Place} {X : Progress} {o : Outcome A} → WalkMatches Also flat P es X end o
-        → skip_at s l left grammar.condition ≡ Some end → behind_in s l left X.walk ≡ Some end
-    unfolding behind_in
+        → skip_at s l left grammar.condition ≡ Some end → behind_in s l left (place_of X.walk) ≡ Ok end
+    unfolding behind_in passed_in
     gives_behind s l left (writes Q result e h v ready also) skipped = rw e
-    gives_behind s l left (refuses work result e h) skipped = rw e skipped
+    gives_behind s l left (refuses work result e h) skipped = rw (e, skipped)
 
   module _ {A B : Type 0} {Also : List ℕ → A → Type 0} {Also' : List ℕ → B → Type 0} {flat : A → List Entry} {flat' : B → List Entry}
       {P : Area} {es es' : List Entry} where

@@ -56,9 +56,8 @@ use Rattle.tape.proofs.Trees.{passes_condition, passes_term, passes_arg}
 use Rattle.area.specs.Area.{Area}
 use Rattle.messages.specs.Reason.{refused_at, message_of}
 use Rattle.messages.specs.declared.Reason.TheVariants.{StrayCondition, StrayOperand}
-use Rattle.walk_state.specs.Reading.{passed_in}
-use Rattle.walk_state.specs.Writing.{state}
-use Rattle.subst_places.specs.Parameters.{behind_in}
+use Rattle.walk_state.specs.Reading.{passed_in, behind_in}
+use Rattle.walk_state.specs.Writing.{state, place_of}
 use Rattle.subst_places.proofs.TreesWalk.{Written, rewritten, regrouped, all_of}
 use Rattle.subst_places.proofs.TreesBound.{root_condition}
 use Rattle.subst_places.proofs.TreesShape.{folded_shape}
@@ -332,7 +331,7 @@ module _ {R : Reads} {reg : Registry} (S : Settled R reg) where
       unfolding since_in passed_in expand_temporal_condition open_outcome deep_condition
       since_right h hl hv he dl de room ready w =
           let found : Progress → (Result Place Refused) =
-          λ X. concrete_within_in R.condition R.layout s (passed_in (behind_in R.condition R.layout left X.walk)) in
+          λ X. concrete_within_in R.condition R.layout s (behind_in R.condition R.layout left (place_of X.walk)) in
           copy_own_matches R (λ X. W.condition (own_copied_after R (found (W.condition X)) k (W.condition X))) h w (λ Q x a.
           let lw = ih.condition l k {result = result} hl dl (room_for _ _ (omega arith) a room) ready x in
           rw (gives_behind R R.condition R.layout left lw (inside_skip hl (passes_condition l) (omega arith)))

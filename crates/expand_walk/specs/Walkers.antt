@@ -22,9 +22,8 @@ use Rattle.nodes.specs.declared.Heading.{Heading}
 use Rattle.area.specs.Area.{Area, area_in, put_in}
 use Rattle.messages.specs.Reason.{refused_at}
 use Rattle.messages.specs.declared.Reason.TheVariants.{StrayCondition, StrayOperand}
-use Rattle.walk_state.specs.Reading.{refused_in, passed_in}
-use Rattle.walk_state.specs.Writing.{state, without_message_at}
-use Rattle.subst_places.specs.Parameters.{behind_in}
+use Rattle.walk_state.specs.Reading.{refused_in, passed_in, behind_in}
+use Rattle.walk_state.specs.Writing.{state, place_of, without_message_at}
 use Rattle.subst_call.specs.Front.{wrong_count}
 use Rattle.subst_call.specs.declared.Macro.{Macro}
 use Rattle.walk_state.specs.Walk.{State}
@@ -104,7 +103,7 @@ module _ (R : Reads) where
     unfoldable pub since_in : ℕ → State → Place → List ℕ → List ℕ → Progress
     since_in span st left work result =
         let l : Progress = W.condition (own_copied st (Ok left) work result) in
-        let within : (Result Place Refused) = passed_in (behind_in R.condition R.layout left l.walk) in
+        let within : (Result Place Refused) = behind_in R.condition R.layout left (place_of l.walk) in
         W.condition (own_copied_after (concrete_within_in R.condition R.layout span within) st.charged l)
 
     -- the base, then the fold

@@ -7,8 +7,7 @@ ghost use Rattle.std.specs.Prelude.{◌≡◌, Ok};
 ghost use Rattle.walk_state.specs.Writing as one;
 ghost use Rattle.expand_calls.specs.Output.{reads_of, going_at, Expands};
 ghost use Rattle.expand_stray.specs.Concrete.{concrete_within_in, concrete_slot_in, concrete_binders_in};
-ghost use Rattle.subst_places.specs.Parameters.{behind_in};
-ghost use Rattle.walk_state.specs.Reading.{passed_in};
+ghost use Rattle.walk_state.specs.Reading.{behind_in};
 ghost use Rattle.expand_walk.specs.Walkers.{walkers, stray_in, condition_node_in, both_in, inner_in, since_in, refine_in, operand_node_in, stray_term_in, sides_in, to_condition_in, to_value_in, called_in, items_in, arg_in, condition_arg_in};
 
 use expand_calls::output::{Expansion, copy_own_after, past_all, refold};
@@ -152,7 +151,7 @@ fn since(
 }
 
 // The within of a Since, behind its left side.
-#[tactic(auto, unfolding(expand_stray::specs::Concrete::concrete_within_in, subst_places::specs::Parameters::behind_in, walk_state::specs::Reading::behind_in, walk_state::specs::Reading::passed_in))]
+#[tactic(auto, unfolding(expand_stray::specs::Concrete::concrete_within_in, walk_state::specs::Reading::behind_in, walk_state::specs::Reading::passed_in))]
 fn within_behind(
     cond: &Tape,
     span: u64,
@@ -160,7 +159,7 @@ fn within_behind(
     walked: &Result<(), Refused>,
     c: &Cursor,
 ) -> Result<Place, Refused>
-    ensures { result ≡ concrete_within_in cond.now.bytes.now cond.now.layout span (passed_in (behind_in cond.now.bytes.now cond.now.layout left (one.came_to walked.now c.now).walk)) }
+    ensures { result ≡ concrete_within_in cond.now.bytes.now cond.now.layout span (behind_in cond.now.bytes.now cond.now.layout left (one.place_of (one.came_to walked.now c.now).walk)) }
 {
     let p = behind(cond, left, &walked.and(Ok(c.place)))?;
     check_concrete_within(cond, span, p)
@@ -339,7 +338,8 @@ fn called(
     outcome(x, c, res, def, call, out)
 }
 
-// The Rust's `expand_temporal_call_args`.
+// The Rust's `expand_temporal_call_args`, with a loop of its own (`subst_places::places::binders`): as a part of the cycle a closure for
+// an argument would need a contract and measures.
 #[cycle(walk)]
 #[tactic(auto, using(crate::proofs::Walking::item_passed, crate::proofs::Walking::turn_refused, crate::proofs::Walking::items_passed))]
 fn expand_call_args(

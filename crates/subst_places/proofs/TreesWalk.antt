@@ -1,7 +1,7 @@
 -- What a walk gives where a tree stands: the entries of the substituted tree behind those that were written, or the refusal of the
 -- tree's definition. Two ways to put walks together: one after another, and as a part of a larger tree.
 -- Assumes nothing.
-use Rattle.std.proofs.Common.{Some}
+use Rattle.std.proofs.Common.{Some, Ok}
 use Prim.Native.Nat.{ℕ, zero, suc, ◌+◌, ◌≤◌}
 use native.Mathlib.Omega.{arith}
 use mathlib.Core.Path.{◌≡◌, refl, sym, ap, subst, ◌∙◌}
@@ -29,9 +29,10 @@ use Rattle.area.proofs.Room.{fits_decides}
 use Rattle.area.proofs.Within.{within_trans, within_append}
 use Rattle.messages.specs.declared.Refused.{Refused}
 use Rattle.answer.specs.Matches.{RefusalMatches}
-use Rattle.walk_state.specs.Writing.{Progress, progress, state, going}
+use Rattle.walk_state.specs.Writing.{Progress, progress, state, going, place_of}
 use Rattle.subst_state.specs.Output.{copy_in, copy_own_in}
-use Rattle.subst_places.specs.Parameters.{Tapes, items_in, behind_in}
+use Rattle.walk_state.specs.Reading.{passed_in, behind_in}
+use Rattle.subst_places.specs.Parameters.{Tapes, items_in}
 use Rattle.walk_state.specs.Walk as walk
 
 -- ------------------------------------------------------------------ refusals are handed on
@@ -155,10 +156,10 @@ module _ (T : Tapes) where
 
     -- the left side of a Since ends where its walk comes and where a skip comes
     pub gives_behind : (s : List ℕ) (l : Layout) (left : Place) {end : Place} {X : Progress} {o : Outcome A} → WalkMatches flat P es X end o
-        → skip_at s l left grammar.condition ≡ Some end → behind_in s l left X.walk ≡ Some end
-    unfolding behind_in
+        → skip_at s l left grammar.condition ≡ Some end → behind_in s l left (place_of X.walk) ≡ Ok end
+    unfolding behind_in passed_in
     gives_behind s l left (writes Q e h w) skipped = rw e
-    gives_behind s l left (refuses bytes e h w) skipped = rw e skipped
+    gives_behind s l left (refuses bytes e h w) skipped = rw (e, skipped)
 
   module _ {A B : Type 0} {flat : A → List Entry} {flat' : B → List Entry} {P : Area} {es es' : List Entry} where
     -- a walk after a walk

@@ -3,13 +3,10 @@
 use Rattle.nodes.specs.declared.WithinNode.{WithinNode}
 use Rattle.nodes.specs.declared.SlotNode.{SlotNode}
 use Rattle.nodes.specs.declared.Refusal.{Refusal}
-use Rattle.std.specs.Prelude.{ℕ, zero, suc, ◌+◌, List, Bool, ◌&&◌, ◌||◌, leb, Option, Some, Result, Ok, Err}
+use Rattle.std.specs.Prelude.{ℕ, zero, suc, ◌+◌, List, Bool, ◌&&◌, ◌||◌, leb, Result, Ok, Err}
 use Rattle.std.proofs.Math.Seq.{slice}
-use Rattle.grammar.specs.Grammar as grammar
 use Rattle.tape.specs.Pick.{pick}
 use Rattle.nodes.specs.Node.{on_value, on_place, expect_at, past_type_at, slot_at, within_at}
-use Rattle.tape.specs.Scan.{skip_at}
-use Rattle.tape.specs.declared.layout.Layout.{Layout}
 use Rattle.tape.specs.declared.layout.Place.{Place}
 use Rattle.nodes.specs.declared.Name.{Name}
 use Rattle.nodes.specs.declared.Sigil.{Sigil}
@@ -30,7 +27,8 @@ use Rattle.messages.specs.declared.Reason.TheVariants.{
 }
 use Rattle.messages.specs.declared.Refused.{Refused}
 use Rattle.subst_state.specs.Arguments.{on_found, arg_for}
-use Rattle.walk_state.specs.Writing.{Progress, progress, going, after, stop, unread}
+use Rattle.walk_state.specs.Reading.{behind_in}
+use Rattle.walk_state.specs.Writing.{Progress, progress, going, after, place_of, stop, unread}
 use Rattle.subst_state.specs.Output.{copy_own_in, paste_in, charge_paste_in, gensym_in}
 use Rattle.subst_state.specs.declared.maps.Argument.{Argument}
 use Rattle.subst_state.specs.Maps.{SubstMaps, maps_at}
@@ -73,10 +71,10 @@ is_interval arg = has_root arg 48 51 || has_root arg 64 64
 
 -- ------------------------------------------------------------------ a within
 
--- where the left side of a Since ends: where its walk came, or, if that was refused, where a skip comes
-unfoldable pub behind_in : List ℕ → Layout → Place → Walk → Option Place
-behind_in s l left (walk.Going st) = Some st.place
-behind_in s l left (walk.Refused r charged) = skip_at s l left grammar.condition
+-- what stands at a place that was read, or the refusal of the read
+unfoldable pub at_read : (Place → Result Interval Refused) → Result Place Refused → Result Interval Refused
+at_read f (Ok p) = f p
+at_read f (Err r) = Err r
 
 module _ (def : List ℕ) (table : List Argument) (m : SubstMaps) where
   unfoldable pub param_within_in : ℕ → Name → Place → Result Interval Refused
@@ -97,8 +95,7 @@ module _ (def : List ℕ) (table : List Argument) (m : SubstMaps) where
 
   -- that of a Since, which stands behind its left side
   unfoldable pub since_within_in : ℕ → Place → Walk → Result Interval Refused
-  since_within_in span left w =
-      on_place (Err (refused_at 0 (WithoutMessage 2))) (within_in span) (behind_in def m.definition left w)
+  since_within_in span left w = at_read (within_in span) (behind_in def m.definition left (place_of w))
 
 -- what a within became, behind a walk; a refusal of the within comes before one of the walk, with what was charged before it
 module _ (def call : List ℕ) (m : SubstMaps) where

@@ -249,6 +249,9 @@ pub fn subst_binders(s: &Substitution, c: &mut Cursor, span: u64) -> Result<(), 
     binders(s, c, span, count)
 }
 
+// A loop over items stands in each walk that writes: here, in `subst_walk`, `expand_walk` and `merge`. One function that takes a closure
+// for an item, as `walk_state::reading::along` does, was tried: what a closure promises that writes to a lent cursor is a relation that
+// has to be written beside it, which is longer than the loop.
 #[tactic(auto, using(crate::proofs::Items::item_passed, crate::proofs::Items::turn_refused, crate::proofs::Items::items_passed))]
 fn binders(s: &Substitution, c: &mut Cursor, span: u64, count: u64) -> Result<(), Refused>
     ensures { Walks c.old c.new result (items_in (binder_in (tapes_of s.now) span) count (going_at c.old)) }

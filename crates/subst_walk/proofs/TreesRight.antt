@@ -45,7 +45,7 @@ use Rattle.messages.specs.declared.Reason.TheVariants.{WithoutMessage}
 use Rattle.messages.specs.declared.Refused.{Refused}
 use Rattle.walk_state.specs.Writing.{Progress, state, going}
 use Rattle.subst_state.specs.Output.{paste_in}
-use Rattle.subst_places.specs.Parameters.{Tapes, items_in, within_in, since_within_in, put_within_in, binder_slot_in, binder_in, binders_in}
+use Rattle.subst_places.specs.Parameters.{Tapes, items_in, at_read, within_in, since_within_in, put_within_in, binder_slot_in, binder_in, binders_in}
 use Rattle.subst_walk.specs.Walkers.{
   Walkers,
   tp_in,
@@ -244,7 +244,7 @@ module _ {T : Tapes} {maps : SubstMaps} (B : Bound T maps) where
           → deep_condition node_weight l ≤ n → deep_condition node_weight r ≤ n → Written P es
           → WalkMatches T flat_condition P es (since_in T W s (state p P.out k) left P.bytes) (past (flat_condition r) behind)
           (subst_temporal_condition maps (Condition.Since s l v r) k)
-      unfolding since_in since_within_in subst_temporal_condition open_outcome
+      unfolding since_in since_within_in at_read subst_temporal_condition open_outcome
       since_right h hl hv hr dl dr w =
           let found : Progress → Result Interval Refused = λ X. since_within_in T.definition T.table T.maps s left X.walk in
           copy_own_matches T (λ X. W.condition (put (found (W.condition X)) (W.condition X))) h w (λ Q x.

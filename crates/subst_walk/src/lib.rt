@@ -137,6 +137,8 @@ fn predicate(
     fields(n, s, c, span, count)
 }
 
+// The fields one after the other, in a loop of their own (`subst_places::places::binders`): as a part of the cycle a closure for a field
+// would need a contract and measures.
 #[tactic(auto, using(subst_places::proofs::Items::item_passed, subst_places::proofs::Items::turn_refused, subst_places::proofs::Items::items_passed))]
 #[cycle(walk)]
 fn fields(n: usize, s: &Substitution, c: &mut Cursor, span: u64, count: u64) -> Result<(), Refused>
@@ -314,6 +316,7 @@ fn term(
     }
 }
 
+// The items of an array, in a loop of their own as the fields.
 #[tactic(auto, using(subst_places::proofs::Items::item_passed, subst_places::proofs::Items::turn_refused, subst_places::proofs::Items::items_passed))]
 #[cycle(walk)]
 fn terms(n: usize, s: &Substitution, c: &mut Cursor, span: u64, count: u64) -> Result<(), Refused>

@@ -34,6 +34,11 @@ on_walk f bytes (walk.Refused r charged) = progress (walk.Refused r charged) byt
 abbrev pub after : (State → List ℕ → Progress) → Progress → Progress
 after f X = on_walk f X.bytes X.walk
 
+-- where the walk came, or its refusal, as a walk that only reads answers it
+abbrev pub place_of : Walk → Result Place Refused
+place_of (walk.Going st) = Ok st.place
+place_of (walk.Refused r charged) = Err r
+
 -- a refusal at a state
 abbrev pub stop : Refused → State → List ℕ → Progress
 stop r st bytes = progress (walk.Refused r st.charged) bytes
