@@ -80,8 +80,8 @@ fn take_entry<const N: usize>(
 }
 
 // The scan with a stack of N cells. An entry brings one cell more at the most, so it has a cell more than the tape has entries. It is a
-// function by itself, since as a part of its caller it has fewer registers (2 in 100 instructions more); and table, tape and `longest` are
-// no struct with methods, with which it took 5 to 8 in 100 more.
+// function by itself, since as a part of its caller it has fewer registers (1 in 100 instructions of an expansion more); and table, tape
+// and `longest` are no struct with methods, with which a scan took 5 to 8 in 100 more.
 #[tactic(auto, using(crate::proofs::Turns::went_on, crate::proofs::Turns::stopped, crate::proofs::Turns::run_out, crate::proofs::Turns::ended, crate::proofs::Turns::first_waits))]
 #[inline(never)]
 fn scan_with<const N: usize>(

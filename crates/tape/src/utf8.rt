@@ -6,10 +6,8 @@ ghost use Rattle.format.specs.Utf8.{◌to◌, move, moved, next, run, well_forme
 use crate::part::part_of;
 
 // Whether the `len` bytes from `start` on, as far as the slice reaches, are one whole character behind the other. Most texts are
-// 20 to 7E throughout, so the automaton runs only where there is another byte. Most are short, too, so that the loop is a part of a
-// scan's (a call takes 6 in 100 instructions more).
+// 20 to 7E throughout, so the automaton runs only where there is another byte.
 #[tactic(auto, using(crate::proofs::Moves::run_printing, crate::proofs::Moves::run_end, format::proofs::Utf8::run_decides))]
-#[inline(always)]
 pub fn well_formed(s: &[u8], start: usize, len: usize) -> bool
     ensures { result ≡ well_formed (part s.now start len) }
 {
