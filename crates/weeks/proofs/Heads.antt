@@ -1,8 +1,7 @@
 -- The older tape of the entries at a layout: a turn of each loop, and what the writes make.
 -- Assumes nothing.
-use Rattle.std.proofs.Common.{◌≡◌, ℕ, zero, suc, ◌+◌, ◌-◌, ◌*◌, ◌%◌, ◌^◌, ◌<◌, ◌≤◌, Bool, true, false, not, ◌&&◌, ◌||◌, eqb, List, [], ◌∷◌, ◌++◌, length, sym, refl, ap, ◌∙◌, arith, length-append, map}
+use Rattle.std.proofs.Common.{◌≡◌, ℕ, zero, suc, ◌+◌, ◌-◌, ◌*◌, ◌<◌, ◌≤◌, Bool, true, false, not, ◌&&◌, ◌||◌, eqb, List, [], ◌∷◌, ◌++◌, length, sym, refl, ap, ◌∙◌, arith, length-append, map}
 use Rattle.std.specs.List.{list_all, range_with_len}
-use native.Mathlib.Nat.{mod-add-mod, add-mod}
 use lib.Seq.{sets, drop-cons}
 use Rattle.format.specs.Entry.{Entry, entry, le, codes_of, values_of}
 use Rattle.format.specs.Older.{sevenfold, as_days, older_entry, older_entries, fits_older}
@@ -152,13 +151,3 @@ module _ (s : List ℕ) (l : Layout) where
       let k : 8 + 9 * l.entries + length text ≡ length (older_heads s l ++ text) =
       omega (arith, length-append (older_heads s l) text, length_older_heads) in
       rw (sets_behind m (older_heads s l) text (8 + 9 * l.entries) (sym length_older_heads), k) refl
-
--- ------------------------------------------------------------------ sums that wrap
-
--- they are right but for multiples of 2^64
-pub wraps : (v : ℕ)
-    → ((((v + v) % 2 ^ 64 + v) % 2 ^ 64 + ((v + v) % 2 ^ 64 + v) % 2 ^ 64) % 2 ^ 64 + v) % 2 ^ 64 ≡ (7 * v) % 2 ^ 64
-wraps v =
-    let x = v + v + v in
-    let y : x + x + v ≡ 7 * v = omega arith in
-    rw (mod-add-mod (v + v) (2 ^ 64) v, ← add-mod x x (2 ^ 64), mod-add-mod (x + x) (2 ^ 64) v, y) refl

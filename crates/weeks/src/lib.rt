@@ -65,16 +65,13 @@ fn fits(code: u8, value: u64) -> bool
     code != code::WEEKS || value <= 1_317_624_576_693_539_401 || 17_129_119_497_016_012_215 <= value
 }
 
-// Seven times an amount. In 64 bits a negative amount is added as any other, and the sum wraps.
-#[tactic(auto, using(crate::proofs::Heads::wraps, format::proofs::Signed::seven_bits))]
+// Seven times an amount. In 64 bits a negative amount is multiplied as any other, and the product wraps.
+#[tactic(auto, using(format::proofs::Signed::seven_bits))]
 fn seven_times(value: u64) -> u64
     requires { T (is_signed64 (sevenfold value)) }
     ensures { result ≡ bits64 (sevenfold value) }
 {
-    let two = std::num::wrapping_add_u64(value, value);
-    let three = std::num::wrapping_add_u64(two, value);
-    let six = std::num::wrapping_add_u64(three, three);
-    std::num::wrapping_add_u64(six, value)
+    value.wrapping_mul(7)
 }
 
 // The code and the value that the older tape has for an entry's.
