@@ -291,8 +291,8 @@ pub fn long_condition(n: usize, tape: &mut [u8]) -> usize {
     }
     buffer::write_size(tape, 0, n);
     buffer::write(tape, 8, &[code::COMPARISON, code::OPERATOR, code::ARRAY]);
-    for at in 11..8 + n {
-        buffer::write(tape, at, &[code::INTEGER]);
+    if let Some(items) = tape.get_mut(11..8 + n) {
+        items.fill(code::INTEGER);
     }
     // `==`, and the number of the array's items
     buffer::write_size(tape, 16 + n, 4);
