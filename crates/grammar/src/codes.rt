@@ -2,6 +2,7 @@
 ghost use Rattle.std.specs.Prelude.{◌≡◌};
 ghost use Rattle.grammar.specs.Words.{follows_in, in_sort, is_each, rules, temporal_grammar};
 
+use crate::code;
 use crate::rules::TextRule::{Long, Name, Short};
 use crate::rules::{
     CodeRule, Grammar, LEAF, LIST, NO_SORT, NODE, NodeRule, SortRule, leaf, list, node, sort,
@@ -59,26 +60,28 @@ pub const DEFINITIONS: u64 = 24;
 // No such code.
 const UNUSED: CodeRule = leaf!(values: 1);
 
+// What follows stands in octal digits here and in the codes, since it is the word that a scan shifts: from the right each two digits are a
+// sort's number, and 0o40 more says that there are as many of the sort as the value.
 static SORTS: [SortRule; 32] = [
     NO_SORT,
-    sort!(low: 1, end: 14), // 1 condition: 1 to 13
-    sort!(low: 20, end: 34), // 2 term: 20 to 33
-    sort!(low: 34, end: 37), // 3 aggregate: 34 to 36
-    sort!(low: 40, end: 41), // 4 text: 40
-    sort!(low: 42, end: 43), // 5 span: 42
-    sort!(low: 43, end: 46), // 6 slot: 43 to 45
-    sort!(low: 46, end: 48), // 7 type: 46 to 47
-    sort!(low: 48, end: 53, low_too: 64, end_too: 65), // 8 within: 48 to 52 and 64
-    sort!(low: 48, end: 52, low_too: 64, end_too: 65), // 9 interval: 48 to 51 and 64
-    sort!(low: 53, end: 54), // 10 operator: 53
-    sort!(low: 54, end: 55), // 11 call: 54
-    sort!(low: 55, end: 58), // 12 argument: 55 to 57
-    sort!(low: 58, end: 60), // 13 sigil: 58 to 59
-    sort!(low: 60, end: 61), // 14 definition: 60
-    sort!(low: 61, end: 64), // 15 body: 61 to 63
-    sort!(low: 40, end: 41, own: 0o02), // 16 field: 40
-    sort!(low: 42, end: 43, own: 0o04), // 17 parameter: 42
-    sort!(low: 43, end: 46, own: 0o07), // 18 binding: 43 to 45
+    sort!(low: code::AND, end: code::REFINE + 1), // 1 condition: 1 to 13
+    sort!(low: code::ENTITY, end: code::BINDER_REF + 1), // 2 term: 20 to 33
+    sort!(low: code::SUM, end: code::AGG_CALL + 1), // 3 aggregate: 34 to 36
+    sort!(low: code::TEXT, end: code::TEXT + 1), // 4 text: 40
+    sort!(low: code::SPAN, end: code::SPAN + 1), // 5 span: 42
+    sort!(low: code::SLOT_NAME, end: code::SLOT_BINDER + 1), // 6 slot: 43 to 45
+    sort!(low: code::TYPE_TIMEPOINT, end: code::TYPE_NAMED + 1), // 7 type: 46 to 47
+    sort!(low: code::SECONDS, end: code::WITHIN_PARAM + 1, low_too: code::WEEKS, end_too: code::WEEKS + 1), // 8 within: 48 to 52 and 64
+    sort!(low: code::SECONDS, end: code::DAYS + 1, low_too: code::WEEKS, end_too: code::WEEKS + 1), // 9 interval: 48 to 51 and 64
+    sort!(low: code::OPERATOR, end: code::OPERATOR + 1), // 10 operator: 53
+    sort!(low: code::CALLED, end: code::CALLED + 1), // 11 call: 54
+    sort!(low: code::ARG_CONDITION, end: code::ARG_WITHIN + 1), // 12 argument: 55 to 57
+    sort!(low: code::SIGIL_PARAM, end: code::SIGIL_BINDER + 1), // 13 sigil: 58 to 59
+    sort!(low: code::DEFINITION, end: code::DEFINITION + 1), // 14 definition: 60
+    sort!(low: code::BODY_CEDAR, end: code::BODY_VALUE + 1), // 15 body: 61 to 63
+    sort!(low: code::TEXT, end: code::TEXT + 1, own: 0o02), // 16 field: 40
+    sort!(low: code::SPAN, end: code::SPAN + 1, own: 0o04), // 17 parameter: 42
+    sort!(low: code::SLOT_NAME, end: code::SLOT_BINDER + 1, own: 0o07), // 18 binding: 43 to 45
     list!(own: 0o44), // 19 texts: 41
     list!(own: 0o60), // 20 fields: 41
     list!(own: 0o62), // 21 bindings: 41

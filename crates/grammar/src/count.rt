@@ -131,7 +131,8 @@ pub fn has_pairs(sort: u64) -> bool
 }
 
 // What an entry does to a count, with `left` entries behind it and `room` bytes of text left: it may not stand there, or it brings so many
-// subtrees and bytes of text, and the items of the next list are two subtrees each or not.
+// subtrees and bytes of text, and the items of the next list are two subtrees each or not. `pairs` is no enum, since nobody chooses by it:
+// it is a part of the count, carried from entry to entry.
 pub fn step(
     counts: &[u8],
     left: usize,
@@ -144,22 +145,23 @@ pub fn step(
     ensures { (result ≡ step_in counts.now left room «pairs» code value) × StepFits room result }
 {
     let count = count_at(counts, code);
-    if count < 8 {
+    if count < u64::from(TEXT) {
         return Some((count, 0, pairs));
     }
-    if count < 16 {
+    if count < u64::from(EACH) {
         if (room as u64) < value {
             return None;
         }
         return Some((0, value as usize, pairs));
     }
-    if 32 <= count {
-        return Some((count % 8, 0, false));
+    if u64::from(OPENS) <= count {
+        // all marks are multiples of the first
+        return Some((count % u64::from(TEXT), 0, false));
     }
     if (left as u64) < value {
         return None;
     }
-    if count < 24 {
+    if count < u64::from(LIST) {
         return Some((value, 0, pairs));
     }
     if pairs {

@@ -144,7 +144,8 @@ pub fn exceeds(longest: Option<NonZeroU64>, c: Cell, e: Head) -> bool
     passes(4, c.calls, calls_of(row)) || exceeds_input(longest, e)
 }
 
-// A figure with more on it, up to the most that has to be told apart.
+// A figure with more on it, up to the most that has to be told apart. The sum is of 16 bits: with `saturating_add` an acceptance takes 17
+// in 1,000 more instructions.
 fn raised(n: u8, more: u8, most: u8) -> u8
     ensures { result ≡ min (n + more) most }
 {

@@ -7,17 +7,19 @@ use crate::rules::TextRule::{Long, Short};
 use crate::rules::{
     CodeRule, Grammar, LEAF, LIST, NO_SORT, NODE, SortRule, leaf, list, node, sort,
 };
+use crate::{argument, code};
 
 // The sorts that a tape's root may be of: a call or an argument, and an argument alone.
 pub const ROOT: u64 = 1;
 
 pub const ARGUMENT: u64 = 2;
 
+// What follows is in octal digits, as in the other table.
 static SORTS: [SortRule; 32] = [
     NO_SORT,
-    sort!(low: 70, end: 77), // 1 root: 70 to 76
-    sort!(low: 71, end: 77), // 2 argument: 71 to 76
-    sort!(low: 40, end: 41), // 3 text: 40
+    sort!(low: argument::METHOD_CALL, end: argument::SET + 1), // 1 root: 70 to 76
+    sort!(low: argument::FIELD, end: argument::SET + 1), // 2 argument: 71 to 76
+    sort!(low: code::TEXT, end: code::TEXT + 1), // 3 text: 40
     list!(own: 0o42), // 4 arguments: 41
     NO_SORT,
     NO_SORT,

@@ -7,7 +7,7 @@ use crate::code;
 
 // A sort: the codes that may stand at a place of it, from `low` to the one before `end`, and those of a second such range, which lies above
 // the first (0 and 0: there is none); the word of what follows there, where the sort says it and not the code (0: the code says it); and
-// whether it is a list of at most 16.
+// whether it is a list of at most 16. These are 12 bytes; with Options for the range and the word they would be 20.
 #[derive(Clone, Copy, Debug, PartialEq, Eq)]
 pub struct SortRule {
     pub low: u8,
@@ -38,7 +38,8 @@ pub enum NodeRule {
 }
 
 // A code: the word of what follows an entry; how many values it may have, from 0 on, or 0 for any; its text, whose length is the value; how
-// much it counts in nesting; and whether it is a call. These are eight bytes, which a scan has at hand in one register.
+// much it counts in nesting; and whether it is a call. These are eight bytes, which a scan has at hand in one register; with an Option for
+// the values they would be 12.
 #[derive(Clone, Copy, Debug, PartialEq, Eq)]
 pub struct CodeRule {
     pub follows: u32,
