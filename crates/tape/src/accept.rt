@@ -19,7 +19,8 @@ pub fn accept(s: &[u8], sort: u64) -> Result<Layout, Fault>
     accept_named(64, s, sort)
 }
 
-// The same with the longest text of a name, which is not 0.
+// The same with the longest text of a name. At 0 no figure of an input is asked for, here and below: the definition has a number too, so that
+// nothing is asked of a caller.
 pub fn accept_named(longest: u64, s: &[u8], sort: u64) -> Result<Layout, Fault>
     ensures { result ≡ accept_named longest s.now sort }
 {
@@ -46,7 +47,7 @@ fn accept_in(grammar: Grammar, longest: u64, tape: &Tape, sort: u64) -> Result<L
     ensures { result ≡ accept_in (rules grammar.entry) longest tape.now.bytes.now sort tape.now.layout }
 {
     let names = NonZeroU64::new(longest);
-    let found = scan(grammar, tape, Place { at: 0, text: 0 }, sort, names);
+    let found = scan(grammar, tape, Place::START, sort, names);
     judge(tape, found)
 }
 

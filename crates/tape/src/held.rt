@@ -5,7 +5,7 @@ ghost use Rattle.tape.specs.Layouts.{Held, holds, code_at, value_at};
 
 use crate::layout::Tape;
 
-// A tape of which `holds` was true.
+// A tape of which `holds` was true. No equality is derived, as of no tape.
 #[derive(Clone, Copy, Debug)]
 pub struct HeldTape<'a> {
     pub tape: Tape<'a>,

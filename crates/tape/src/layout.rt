@@ -14,7 +14,9 @@ pub struct Layout {
     pub size: usize,
 }
 
-// A slice, and where the sections of the tape in it start. A tape may be shorter than its layout says; `holds` tells.
+// A slice, and where the sections of the tape in it start. A tape may be shorter than its layout says; `holds` tells. No equality is
+// derived, since it would be one of the slices, which may hold more than the tape: whether two tapes are equal is asked of their entries,
+// by `judge` but for generated names, and by `merge` but for spans.
 #[derive(Clone, Copy, Debug)]
 pub struct Tape<'a> {
     pub bytes: &'a [u8],
@@ -57,6 +59,11 @@ pub struct Place {
     pub text: usize,
 }
 
+impl Place {
+    // The first entry, in front of all text.
+    pub const START: Place = Place { at: 0, text: 0 };
+}
+
 // A tape of `entries` entries and `size` text bytes.
 pub fn of_tape(entries: usize, size: usize) -> Layout
     requires { entries ≤ 1024 }
@@ -71,7 +78,8 @@ pub fn of_tape(entries: usize, size: usize) -> Layout
     }
 }
 
-// The work area at `base`: 1,024 codes, 8,192 bytes of values, then the text. A base past every buffer holds nothing.
+// The work area at `base`: 1,024 codes, 8,192 bytes of values, then the text. A base past every buffer holds nothing: its layout is empty and
+// no None, as the definition has it, so that nothing is asked of a caller.
 pub fn of_area(base: usize, entries: usize, size: usize) -> Layout
     ensures { result ≡ area_layout base entries size }
 {

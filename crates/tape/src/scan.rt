@@ -99,6 +99,7 @@ fn scan_with<const N: usize>(
     let mut at = from.at;
     let mut text = from.text;
     let mut over = false;
+    // no `for`: what the entries bring ends the loop, and the place where it ends is a part of the answer
     while let Some(&cell) = stack.as_slice().last() {
         if at == tape.layout.entries {
             return None;
@@ -168,7 +169,7 @@ pub fn scan(
 pub fn too_deep_in(grammar: Grammar, tape: &Tape, sort: u64) -> bool
     ensures { result ≡ too_deep_in (rules grammar.entry) tape.now.bytes.now tape.now.layout sort }
 {
-    let found = scan(grammar, tape, Place { at: 0, text: 0 }, sort, None);
+    let found = scan(grammar, tape, Place::START, sort, None);
     matches!(found, Some((_, true)))
 }
 
