@@ -26,7 +26,8 @@ pub fn write(s: &mut [u8], at: usize, piece: &[u8])
     }
 }
 
-// Writes what each byte of `piece` becomes into `s` from `at` on, as far as `s` reaches.
+// Writes what each byte of `piece` becomes into `s` from `at` on, as far as `s` reaches. An index is what the two slices share: a `zip`
+// with `iter_mut` was tried, and a proof does not learn from it what was written.
 #[tactic(auto, using(crate::proofs::Sets::sets_mapped, crate::proofs::Sets::sets_each))]
 pub fn write_each<F>(s: &mut [u8], at: usize, piece: &[u8], becomes: F)
 where
@@ -132,7 +133,8 @@ pub fn write_size(s: &mut [u8], at: usize, size: usize)
 }
 
 // How many decimal digits a number has. Document 02, point 2: digits are found by dividing numbers of 32 bits and no wider ones, here and
-// below, which the parameter's type says. So both are written here: the library's decimals (itoa) are divisions of 64 bits.
+// below, which the parameter's type says. So both are written here: the library's decimals (itoa) are divisions of 64 bits. The loop has no
+// range to go over: what is left ends it, and its turns are the answer.
 #[tactic(auto, using(crate::proofs::Decimals::at_most_10_digits, crate::proofs::Decimals::small_length, crate::proofs::Decimals::step_length))]
 pub fn digit_count(n: u32) -> usize
     ensures { result ≡ length (decimal n) }
