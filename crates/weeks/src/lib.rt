@@ -15,7 +15,8 @@ use tape::held::HeldTape;
 use tape::layout::Tape;
 use tape::part::part_of;
 
-// A held tape whose amounts fit: seven times the amount of each interval in weeks has 64 bits.
+// A held tape whose amounts fit: seven times the amount of each interval in weeks has 64 bits. No equality is derived,
+// as of no tape.
 #[derive(Clone, Copy, Debug)]
 struct FittingTape<'a> {
     held: HeldTape<'a>,
