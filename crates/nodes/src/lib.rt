@@ -138,16 +138,7 @@ pub fn span_of(value: u64) -> Span
 fn has_entry(len: usize, l: Layout, at: usize) -> bool
     ensures { result ≡ has_entry len l at }
 {
-    if len <= l.codes {
-        return false;
-    }
-    if len - l.codes <= at {
-        return false;
-    }
-    if len < l.values {
-        return false;
-    }
-    at < (len - l.values) / 8
+    at < len.saturating_sub(l.codes) && at < len.saturating_sub(l.values) / 8
 }
 
 // Whether the slice holds a text of this size at a place.
@@ -155,14 +146,7 @@ fn has_entry(len: usize, l: Layout, at: usize) -> bool
 fn has_text(len: usize, l: Layout, p: Place, size: u64) -> bool
     ensures { result ≡ has_text len l p size }
 {
-    if len < l.text {
-        return false;
-    }
-    let room = len - l.text;
-    if room < p.text {
-        return false;
-    }
-    size <= (room - p.text) as u64
+    l.text <= len && p.text <= len - l.text && size <= (len - l.text - p.text) as u64
 }
 
 // The place behind an entry with this much text.
@@ -200,10 +184,7 @@ pub fn expect(tape: &Tape, p: Place, code: u8) -> Option<(u64, Place)>
     ensures { result ≡ expect_at tape.now.bytes.now tape.now.layout p code }
 {
     let at = p.at;
-    if !has_entry(tape.bytes.len(), tape.layout, at) {
-        return None;
-    }
-    if tape.code_at(at) != code {
+    if !has_entry(tape.bytes.len(), tape.layout, at) || tape.code_at(at) != code {
         return None;
     }
     let value = tape.value_at(at);
@@ -313,8 +294,8 @@ fn read_sigil(tape: &Tape, p: Place, span: u64) -> Result<(ConditionNode, Place)
     }
 }
 
-// The name of the entry with text at a place.
-fn named(p: Place, size: u64) -> Name
+// The name of the entry with text at a place, whose text has this size.
+pub fn named(p: Place, size: u64) -> Name
     ensures { result ≡ named p size }
 {
     Name {
@@ -435,13 +416,7 @@ pub fn read_param(tape: &Tape, p: Place) -> Option<(Name, Place)>
 {
     let (_, at) = expect(tape, p, code::SPAN)?;
     let (size, next) = expect(tape, at, code::TEXT)?;
-    Some((
-        Name {
-            text: at.text,
-            size: size as usize,
-        },
-        next,
-    ))
+    Some((named(at, size), next))
 }
 
 // The place behind a parameter: its span and its name.
@@ -477,20 +452,7 @@ pub fn read_body(tape: &Tape, p: Place) -> Result<(BodyNode, Place), Refusal>
 pub fn name_at<'a>(tape: &Tape<'a>, name: Name) -> &'a [u8]
     ensures { result.now ≡ name_at tape.now.bytes.now tape.now.layout name }
 {
-    let len = tape.bytes.len();
-    let text = tape.layout.text;
-    if len < text {
-        return &tape.bytes[0..0];
-    }
-    let room = len - text;
-    let from = name.text;
-    let size = name.size;
-    if room < from {
-        return &tape.bytes[0..0];
-    }
-    if room - from < size {
-        return &tape.bytes[0..0];
-    }
-    let start = text + from;
-    &tape.bytes[start..start + size]
+    let text = tape.bytes.get(tape.layout.text..).unwrap_or(&[]);
+    let from = text.get(name.text..).unwrap_or(&[]);
+    from.get(..name.size).unwrap_or(&[])
 }
