@@ -12,7 +12,7 @@ ghost use Rattle.expand_counts.specs.Counting.{name_behind_at, is_named, raised_
 use grammar::code;
 use grammar::codes::TERM;
 use grammar::kind::text_width;
-use nodes::{Name, expect, name_at};
+use nodes::{expect, name_at, named};
 use registry::{Index, Row, key_of};
 use tape::held::HeldTape;
 use tape::layout::{Place, Tape};
@@ -42,11 +42,7 @@ fn name_behind<'a>(tape: &Tape<'a>, p: Place) -> &'a [u8]
     let Some((size, _)) = expect(tape, q, code::TEXT) else {
         return &tape.bytes[0..0];
     };
-    let name = Name {
-        text: p.text,
-        size: size as usize,
-    };
-    name_at(tape, name)
+    name_at(tape, named(p, size))
 }
 
 // Whether the definition of a row has the name, of which the key is given.
@@ -133,11 +129,8 @@ fn pass(tape: &Tape, p: Place, w: Passing, code: u8, value: u64) -> Passing
     requires { w.items ≤ 4194304 }
     ensures { (result ≡ passed_at tape.now.bytes.now tape.now.layout p w code value) × (result.items ≤ w.items + 2048) }
 {
-    if 0 < w.over {
-        return Passing {
-            over: w.over - 1,
-            ..w
-        };
+    if let Some(over) = w.over.checked_sub(1) {
+        return Passing { over, ..w };
     }
     Passing {
         over: over_at(tape, p, w.items, code, value),

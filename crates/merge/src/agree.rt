@@ -6,7 +6,7 @@ ghost use Rattle.merge.specs.Agree.{same_head, text_at, alike_at, same_from, agr
 use grammar::code;
 use grammar::codes::DEFINITION;
 use grammar::kind::text_width;
-use nodes::{Name, entry, name_at, read_heading};
+use nodes::{entry, name_at, named, read_heading};
 use registry::{Definition, Index};
 use tape::layout::{Place, Tape};
 use tape::scan::skip;
@@ -52,12 +52,7 @@ fn same_head(code: u8, value: u64, other: u8, count: u64) -> bool
 fn text_at<'a>(tape: &Tape<'a>, p: Place, code: u8, value: u64) -> &'a [u8]
     ensures { result.now ≡ text_at tape.now.bytes.now tape.now.layout p code value }
 {
-    let size = text_width(code, value);
-    let name = Name {
-        text: p.text,
-        size: size as usize,
-    };
-    name_at(tape, name)
+    name_at(tape, named(p, text_width(code, value)))
 }
 
 // The entries at two places of two tapes.

@@ -21,7 +21,7 @@ use grammar::code;
 use grammar::codes::DEFINITIONS;
 use grammar::kind::is_text;
 use messages::{Reason, Refused, refuse};
-use nodes::{Name, name_at, read_heading};
+use nodes::{name_at, named, read_heading};
 use tape::held::HeldTape;
 use tape::layout::{Place, Tape};
 
@@ -55,11 +55,7 @@ fn key_at(tape: &Tape, p: Place) -> u32
 {
     let start = tape.layout.values;
     let size = read_value(tape.bytes, start + 8 * (p.at + 1));
-    let name = Name {
-        text: p.text,
-        size: size as usize,
-    };
-    key_of(name_at(tape, name))
+    key_of(name_at(tape, named(p, size)))
 }
 
 // How many bytes of text an entry takes. Few entries have text, and only their values are read.
@@ -125,13 +121,12 @@ fn check_name(tape: &Tape, seen: &[Row], p: Place) -> Result<(), Refused>
 {
     let (h, _) = read_heading(tape, p, code::DEFINITION)?;
     let span = h.span;
-    let named = h.name;
-    let name = name_at(tape, named);
+    let name = name_at(tape, h.name);
     if is_reserved(name) {
-        return Err(refuse(span, Reason::Reserved(named)));
+        return Err(refuse(span, Reason::Reserved(h.name)));
     }
     match first_named(tape, seen, name) {
-        Some(first) => Err(refuse(span, Reason::Duplicate(named, first.heading.span))),
+        Some(first) => Err(refuse(span, Reason::Duplicate(h.name, first.heading.span))),
         None => Ok(()),
     }
 }

@@ -6,7 +6,7 @@ ghost use Rattle.subst_places.specs.Refines.{sigil_shape_in, shape_in, fold_in, 
 
 use grammar::code;
 use messages::{Reason, Refused, refuse};
-use nodes::{Name, entry, expect};
+use nodes::{entry, expect, named};
 use subst_state::maps::Substitution;
 use tape::layout::Place;
 use walk_state::writing::Cursor;
@@ -36,14 +36,7 @@ fn sigil_shape(s: &Substitution, p: Place) -> u8
     let Some((size, _)) = expect(&s.definition, p, code::SIGIL_PARAM) else {
         return code::SIGIL_REF;
     };
-    let name = Name {
-        text: p.text,
-        size: size as usize,
-    };
-    let Some(arg) = s.arg_for(name) else {
-        return code::SIGIL_REF;
-    };
-    arg.root
+    s.arg_for(named(p, size)).map_or(code::SIGIL_REF, |arg| arg.root)
 }
 
 // The fields of a refinement stand behind the condition that was written at entry `base`: a predicate takes them over, and any other

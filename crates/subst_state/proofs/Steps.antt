@@ -9,6 +9,9 @@ use mathlib.Core.Bool.{Bool, true, false}
 use mathlib.Core.List.{List, [], ◌∷◌}
 use lib.Dec.{leb}
 use lib.ListN.{length, take, drop, get_or, length-drop}
+use Rattle.std.specs.Option.{option_copied}
+use Rattle.std.specs.Slice.{IsItemAt}
+use denote.Bor.{Bor}
 use Rattle.std.specs.Prelude.{slice_set}
 use lib.Seq.{slice, take_all, take-nil}
 use borrow.Author.Tests.{leb-true, leb-false, lt-leb, le-leb}
@@ -118,17 +121,21 @@ module _ (s : List ℕ) (l : Layout) (n j : ℕ) (p : Place) (k : ℕ) (t : List
       table_more e = rw (opened, le-leb (k + 1) (length t) (omega (arith, room)), ← e)
 
 -- the argument at an index, where the table has it and where it has not
-pub argument_there : (t : List Argument) (i : ℕ) (other : Argument) → i < length t → Some (get_or t i other) ≡ argument_in t i
+argument_there : (t : List Argument) (i : ℕ) (other : Argument) → i < length t → Some (get_or t i other) ≡ argument_in t i
 unfolding argument_in
 argument_there [] i other h = absurd (omega (arith, h))
 argument_there (a ∷ t) zero other h = refl
 argument_there (a ∷ t) (suc i) other h = argument_there t i other (omega (arith, h))
 
-pub argument_past : (t : List Argument) (i : ℕ) → length t ≤ i → None ≡ argument_in t i
+argument_past : (t : List Argument) (i : ℕ) → length t ≤ i → None ≡ argument_in t i
 unfolding argument_in
 argument_past [] i h = refl
 argument_past (a ∷ t) zero h = absurd (omega (arith, h))
 argument_past (a ∷ t) (suc i) h = argument_past t i (omega (arith, h))
+
+pub argument_got : (t : List Argument) (i : ℕ) (r : Option (Bor Argument)) → IsItemAt t i r → option_copied r ≡ argument_in t i
+argument_got t i None h = argument_past t i h.3
+argument_got t i (Some x) h = ap Some h.1 ∙ argument_there t i x.now h.3.0
 
 -- ------------------------------------------------------------------ a search
 

@@ -45,7 +45,8 @@ impl Argument {
 }
 
 impl Substitution<'_> {
-    // The argument of the last parameter with this name.
+    // The argument of the last parameter with this name. It is found by an index: parameters are read from the tape one behind another,
+    // and a later one of the name that has no argument takes the place of an earlier one's, so that a `zip` would not say the same.
     #[tactic(auto, using(crate::proofs::Steps::search_done, crate::proofs::Steps::search_end, crate::proofs::Steps::search_hit, crate::proofs::Steps::search_miss, nodes::proofs::Texts::equal_texts), unfolding(crate::specs::Arguments::arg_for))]
     pub fn arg_for(&self, name: Name) -> Option<Argument>
         ensures { result ≡ arg_for self.now.definition.bytes.now self.now.args.now (maps_at self.now) name }
@@ -106,7 +107,8 @@ fn measure(tape: &Tape, p: Place) -> Option<Argument>
 }
 
 // The table of a call's arguments: they are found and measured once, and not at every paste. `first` is the place of the first, and
-// the table has room for as many as it has.
+// the table has room for as many as it has. The table is written by an index: of what `iter_mut` behind `take` writes a proof learns
+// nothing.
 #[tactic(auto, using(crate::proofs::Steps::table_done, crate::proofs::Steps::table_full, crate::proofs::Steps::table_none, crate::proofs::Steps::table_more))]
 pub fn find_arguments(tape: &Tape, first: Place, count: u64, args: &mut [Argument])
     ensures { args.new ≡ table_from tape.now.bytes.now tape.now.layout count first 0 args.old }
@@ -122,9 +124,9 @@ pub fn find_arguments(tape: &Tape, first: Place, count: u64, args: &mut [Argumen
 }
 
 // The argument at an index of the table.
-#[tactic(auto, using(crate::proofs::Steps::argument_there, crate::proofs::Steps::argument_past))]
+#[tactic(auto, using(crate::proofs::Steps::argument_got))]
 fn argument_at(args: &[Argument], i: usize) -> Option<Argument>
     ensures { result ≡ argument_in args.now i }
 {
-    if i < args.len() { Some(args[i]) } else { None }
+    args.get(i).copied()
 }
