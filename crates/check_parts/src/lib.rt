@@ -8,12 +8,9 @@ ghost use Rattle.check_parts.specs.Names.{declaration, declared_in, param_in, pl
 
 use message_parts::names::Params;
 use messages::{Reason, Refused, refuse};
-use nodes::{
-    Name, Refusal, Sigil, SlotNode, WithinNode, name_at, past_type, read_param, read_slot,
-    read_within,
-};
+use nodes::{Name, Sigil, SlotNode, WithinNode, name_at, read_param, read_slot, read_within};
 use tape::layout::{Place, Tape};
-use walk_state::reading::along;
+use walk_state::reading::{along, binder};
 
 // A definition's tape and its parameters.
 #[derive(Clone, Copy, Debug)]
@@ -23,7 +20,8 @@ pub struct Declared<'a> {
 }
 
 impl Declared<'_> {
-    // Whether a name is declared.
+    // Whether a name is declared. The search ends at the name: those for the least name and for the last parameter of a name go on to the
+    // end, so that each of the three loops over parameters has another body and another end, and what they share is `read_param`.
     #[tactic(auto, using(nodes::proofs::Texts::equal_texts, crate::proofs::Steps::none_declared, crate::proofs::Steps::no_param, crate::proofs::Steps::is_declared, crate::proofs::Steps::other_declared))]
     fn contains(&self, name: Name) -> bool
         ensures { result ≡ contains (declared_in self.now.tape.bytes.now (declaration self.now)) (name_at self.now.tape.bytes.now self.now.tape.layout name) }
@@ -95,12 +93,11 @@ impl Declared<'_> {
     }
 
     // A slot and its type.
-    #[tactic(auto, unfolding(crate::specs::Names::binder_in, walk_state::specs::Reading::refused_in, walk_state::specs::Reading::passed_in, nodes::specs::Node::span_of, nodes::specs::Node::refusal_of))]
+    #[tactic(auto, unfolding(crate::specs::Names::binder_in))]
     pub fn check_binder(&self, span: u64, p: Place) -> Result<Place, Refused>
         ensures { result ≡ binder_in self.now.tape.bytes.now (declaration self.now) span (Ok p) }
     {
-        let slot = self.check_binder_slot(span, p)?;
-        Ok(past_type(&self.tape, slot).ok_or(Refusal::MALFORMED)?)
+        binder(&self.tape, p, |q| self.check_binder_slot(span, q))
     }
 
     // A list of slots with types.

@@ -111,6 +111,7 @@ fn check_temporal_agg_body(nesting: usize, d: &Declared, p: Place) -> Result<Pla
     }
 }
 
+// An array's items are a loop, as a list of fields is.
 #[cycle(walk)]
 #[tactic(auto, using(crate::proofs::Walking::term_handed_on, walk_state::proofs::Items::item_passed, walk_state::proofs::Items::item_refused, walk_state::proofs::Items::items_passed), unfolding(crate::specs::Walk::walkers, crate::specs::Walk::term_node_in, walk_state::specs::Reading::refused_in, walk_state::specs::Reading::without_message_of, nodes::specs::Node::span_of))]
 fn check_temporal_term(nesting: usize, d: &Declared, span: u64, p: Place) -> Result<Place, Refused>

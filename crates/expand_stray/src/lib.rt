@@ -1,6 +1,6 @@
 // Stray sigils: the parts of a condition that expansion looks at and leaves as they are. A within, a slot and a term have a check here
 // and one in a body (`check_parts`, `check_walk`): each row of their matches answers otherwise, so what is common are the readers of
-// `nodes` and the walk of a list.
+// `nodes` and the walks of a binder and of a list.
 #![tactic(auto)]
 
 ghost use Rattle.std.specs.Prelude.{◌≡◌, Ok};
@@ -8,12 +8,9 @@ ghost use Rattle.expand_stray.specs.Concrete.{concrete_within_in, concrete_slot_
 
 use grammar::codes::TERM;
 use messages::{Reason, Refused, refuse};
-use nodes::{
-    Refusal, Sigil, SlotNode, TermNode, WithinNode, past_type, read_slot, read_term, read_within,
-};
+use nodes::{Sigil, SlotNode, TermNode, WithinNode, read_slot, read_term, read_within};
 use tape::layout::{Place, Tape};
-use tape::scan::skip;
-use walk_state::reading::{along, past_name};
+use walk_state::reading::{along, binder, past_all, past_name};
 
 #[tactic(auto, unfolding(crate::specs::Concrete::concrete_within_in, walk_state::specs::Reading::refused_in, walk_state::specs::Reading::without_message_of))]
 pub fn check_concrete_within(tape: &Tape, span: u64, p: Place) -> Result<Place, Refused>
@@ -39,12 +36,11 @@ pub fn check_concrete_slot(tape: &Tape, span: u64, p: Place) -> Result<Place, Re
 }
 
 // A slot and its type.
-#[tactic(auto, unfolding(crate::specs::Concrete::concrete_binder_in, walk_state::specs::Reading::passed_in, walk_state::specs::Reading::refused_in, nodes::specs::Node::span_of))]
+#[tactic(auto, unfolding(crate::specs::Concrete::concrete_binder_in))]
 pub fn check_concrete_binder(tape: &Tape, span: u64, p: Place) -> Result<Place, Refused>
     ensures { result ≡ concrete_binder_in tape.now.bytes.now tape.now.layout span (Ok p) }
 {
-    let slot = check_concrete_slot(tape, span, p)?;
-    Ok(past_type(tape, slot).ok_or(Refusal::MALFORMED)?)
+    binder(tape, p, |q| check_concrete_slot(tape, span, q))
 }
 
 // A list of slots with types.
@@ -54,7 +50,8 @@ pub fn check_concrete_binders(tape: &Tape, span: u64, p: Place) -> Result<Place,
     along(tape, p, |q| check_concrete_binder(tape, span, q))
 }
 
-// Only arrays are entered: aggregates and arithmetic are passed whole.
+// Only arrays are entered: aggregates and arithmetic are passed whole. An array's items are a loop, as in the check of a body: `along`
+// reads the list's entry first, and a function that calls itself would need a contract and measures for its closure.
 #[tactic(auto, using(walk_state::proofs::Items::item_passed, walk_state::proofs::Items::item_refused, walk_state::proofs::Items::items_passed), unfolding(crate::specs::Concrete::concrete_term_in, crate::specs::Concrete::concrete_node_in, walk_state::specs::Reading::passed_in, walk_state::specs::Reading::refused_in, walk_state::specs::Reading::without_message_of, nodes::specs::Node::span_of))]
 fn check_concrete_term(nesting: usize, tape: &Tape, span: u64, p: Place) -> Result<Place, Refused>
     ensures { result ≡ concrete_term_in tape.now.bytes.now tape.now.layout nesting span (Ok p) }
@@ -71,7 +68,7 @@ fn check_concrete_term(nesting: usize, tape: &Tape, span: u64, p: Place) -> Resu
             }
             Ok(q)
         }
-        TermNode::Agg | TermNode::Arith => Ok(skip(tape, p, TERM).ok_or(Refusal::MALFORMED)?),
+        TermNode::Agg | TermNode::Arith => past_all(tape, p, TERM),
         TermNode::Var(_) | TermNode::Plain => Ok(next),
     }
 }

@@ -3,7 +3,7 @@
 use Rattle.messages.specs.declared.Refused.{Refused}
 use Rattle.std.specs.Prelude.{◌≡◌, ℕ, zero, suc, List, Option, Result, Ok, Err}
 use Rattle.grammar.specs.Grammar as grammar
-use Rattle.nodes.specs.Node.{on_value, on_place, expect_at}
+use Rattle.nodes.specs.Node.{on_value, on_place, expect_at, past_type_at}
 use Rattle.tape.specs.Scan.{skip_at}
 use Rattle.tape.specs.declared.layout.Layout.{Layout}
 use Rattle.tape.specs.declared.layout.Place.{Place}
@@ -64,3 +64,9 @@ unfoldable pub Along : List ℕ → Layout → (Place → Result Place Refused �
 Along s l P p r =
     (f : Result Place Refused → Result Place Refused) → ((q : Place) (x : Result Place Refused) → P q x → x ≡ f (Ok q))
     → r ≡ on_value malformed_in (λ count first. items_in f count (Ok first)) (expect_at s l p 41)
+
+-- ------------------------------------------------------------------ binders
+
+-- the way past the type behind a slot, where a call has found x
+abbrev pub Binds : List ℕ → Layout → (Place → Result Place Refused → Type 0) → Place → Result Place Refused → Type 0
+Binds s l P p r = (x : Result Place Refused) × (P p x) × (r ≡ after (λ q. passed_in (past_type_at s l q)) x)
