@@ -12,8 +12,8 @@ use tape::layout::{Place, Tape};
 use tape::scan::skip;
 
 // What a definition of the second registry is to the first: a new one, or one that agrees with the first's, each with the place behind
-// it; or one that differs, with its span.
-// Not a Result: a new and a known definition both go on, and one that differs is refused where its span is at hand.
+// it; or one that differs, with its span. Not a Result: a new and a known definition both go on, and of one that differs the refusal is
+// made where it is handed on, so that what is compared knows nothing of refusals.
 #[derive(Clone, Copy, Debug, PartialEq, Eq)]
 pub enum Compared {
     New(Place),
@@ -21,7 +21,8 @@ pub enum Compared {
     Differs(u64),
 }
 
-// Whether the value of an entry is a span.
+// Whether the value of an entry is a span. Not by grammar's `kind_of`: there a method call of a provider's tape has a span too, and the
+// definition of an agreement has no such code.
 #[tactic(auto, unfolding(definition::specs::Merge::is_spanned, format::specs::Macro::is_code))]
 fn is_spanned(code: u8) -> bool
     ensures { result ≡ is_spanned code }

@@ -1,8 +1,8 @@
 // The joined registry, in a work area: all that stands on the first tape, and behind it the second's definitions that the first lacks.
 ghost use Rattle.std.specs.Prelude.{◌≡◌};
-ghost use Rattle.walk_state.specs.Writing.{Walks, Moves, Makes, going, state_at, area_at, going_at, came_to};
+ghost use Rattle.walk_state.specs.Writing.{Walks, Moves, going, state_at, going_at, came_to};
 ghost use Rattle.registry.specs.Places.{origin};
-ghost use Rattle.merge.specs.Join.{add_in, first_in, join_one_in, join_in, joined_in, merged_of, merging, merge_in};
+ghost use Rattle.merge.specs.Join.{first_in, join_one_in, join_in, joined_in, merged_of, merging, merge_in};
 
 use crate::agree::{Compared, compare};
 use area::Writer;
@@ -11,8 +11,8 @@ use grammar::codes::DEFINITIONS;
 use messages::{Reason, Refused, refuse};
 use nodes::{Refusal, expect};
 use registry::{Index, Row};
-use subst_state::run::copy;
-use tape::layout::{Place, Tape};
+use subst_state::run::{copy, copy_to};
+use tape::layout::Tape;
 use tape::scan::skip;
 use walk_state::writing::Cursor;
 
@@ -23,24 +23,16 @@ pub enum Refusing {
     Second(Refused),
 }
 
-// Appends a definition to the registry in the area, and counts it in the list's first entry.
-#[tactic(auto, unfolding(crate::specs::Join::add_in))]
-fn add(tape: &Tape, from: Place, to: Place, c: &mut Cursor)
-    ensures { Makes c.old c.new (add_in tape.now.bytes.now tape.now.layout from to (area_at c.old)) }
-{
-    copy(tape, tape, true, from, to, c);
-    c.patch_count(0, 1);
-}
-
-// The next definition of the second registry: a new one is added, one that differs is 51 with its span.
-#[tactic(auto, unfolding(crate::specs::Join::join_one_in))]
+// The next definition of the second registry: a new one is appended to the registry in the area and counted in the list's first entry,
+// one that differs is 51 with its span.
+#[tactic(auto, unfolding(crate::specs::Join::join_one_in, crate::specs::Join::add_in))]
 fn join_one(first: &Index, t: &Tape, c: &mut Cursor) -> Result<(), Refused>
     ensures { Walks c.old c.new result (join_one_in first.now.tape.bytes.now first.now.tape.layout first.now.rows.now t.now.bytes.now t.now.layout (state_at c.old) c.old.bytes.now) }
 {
     match compare(first, t, c.place) {
         Compared::New(next) => {
-            add(t, c.place, next, c);
-            c.place = next;
+            copy_to(t, c, next);
+            c.patch_count(0, 1);
         }
         Compared::Known(next) => c.place = next,
         Compared::Differs(span) => return Err(refuse(
@@ -69,6 +61,7 @@ fn write_first(tape: &Tape, c: &mut Cursor)
     ensures { Moves c.old c.new (going origin 0 (first_in tape.now.bytes.now tape.now.layout c.old.bytes.now)) }
 {
     c.restart();
+    // one tape: `copy` takes two, since document 01 names the form (`part` in `subst_state/src/run.rt`)
     if let Some(end) = skip(tape, c.place, DEFINITIONS) {
         copy(tape, tape, true, c.place, end, c);
     }

@@ -50,7 +50,8 @@ fn merge_in(first: &Tape, second: &Tape, res: &mut [u8], message: &mut [u8]) -> 
     answer_merging(first, second, m, &area, res, message)
 }
 
-// The same over the rewritten tapes, for which there is room here: most tapes have no Or.
+// The same over the rewritten tapes, for which there is room here: most tapes have no Or, and only those with one pay for it. Tried with a
+// closure, which writes to lent buffers: the caller's goal stays open.
 fn merge_rewritten(first: &Tape, second: &Tape, res: &mut [u8], message: &mut [u8]) -> Answer
     ensures { EndsMerge (rewritten_in first.now.bytes.now first.now.layout (replicate 12296 0)) (rewritten_layout first.now.bytes.now first.now.layout) (rewritten_in second.now.bytes.now second.now.layout (replicate 12296 0)) (rewritten_layout second.now.bytes.now second.now.layout) (length res.old) (length message.old) (answer_with result res.new [] message.new) }
 {
