@@ -26,7 +26,7 @@ pub struct Passing {
     pub items: usize,
 }
 
-// The name in the entry behind the one at a place, which has no text: a call's, or a definition's.
+// The name in the entry behind the one at a place, which has no text: a call's, or a definition's. The place may be any.
 #[tactic(auto, using(crate::proofs::Steps::name_outside, crate::proofs::Steps::name_missing, crate::proofs::Steps::name_read))]
 fn name_behind<'a>(tape: &Tape<'a>, p: Place) -> &'a [u8]
     ensures { result.now ≡ name_behind_at tape.now.bytes.now tape.now.layout p }

@@ -35,7 +35,7 @@ struct HeldProtected<'a> {
     condition: HeldTape<'a>,
 }
 
-// Two tapes side by side, of as many entries.
+// Two tapes side by side, of as many entries. What is asked of a function of an entry is that there is one of the index, as a slice asks.
 #[derive(Clone, Copy, Debug)]
 struct Sides<'a> {
     left: HeldTape<'a>,

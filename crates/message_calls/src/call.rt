@@ -73,7 +73,7 @@ pub fn condition_as_value(message: &mut Message, tape: &Tape, name: Name)
     );
 }
 
-// The counts of an accepted tape are far below 2^32.
+// The counts of an accepted tape are far below 2^32. Any count may be asked for, and the definition takes both modulo 2^32.
 pub fn argument_count(message: &mut Message, tape: &Tape, name: Name, wanted: u64, got: u64)
     ensures { Puts (argument_count (name_at tape.now.bytes.now tape.now.layout name) (wanted % 2 ^ 32) (got % 2 ^ 32)) message.old message.new }
 {

@@ -47,7 +47,8 @@ pub fn key_of(name: &[u8]) -> u32
     h
 }
 
-// The key of the name of the definition at a place. The name stands in the entry behind the 60, which has no text.
+// The key of the name of the definition at a place. The name stands in the entry behind the 60, which has no text. The tape holds that
+// entry, so that its value alone is read; `name_behind` of expand_counts, which asks for any place, looks for the entry and its code.
 #[tactic(auto, unfolding(crate::specs::Places::key_at))]
 fn key_at(tape: &Tape, p: Place) -> u32
     requires { tape.now.layout.values + 8 * (p.at + 1) ≤ length tape.now.bytes.now }
@@ -68,7 +69,7 @@ fn width_at(tape: &Tape, at: usize, code: u8) -> u64
 }
 
 // Writes the rows of the entries with the code 60 to a table, as many as it holds, and answers how many there are. A 60 stands nowhere but
-// where a definition begins.
+// where a definition begins. `n` counts the rows of a lent table: a vector of them would be copied, 6 KB, wherever the index is moved.
 #[tactic(auto, using(crate::proofs::Steps::index_start, crate::proofs::Steps::index_noted, crate::proofs::Steps::index_full, crate::proofs::Steps::index_other))]
 fn index_from(held: &HeldTape, rows: &mut [Row]) -> usize
     ensures written { take result rows.new ≡ take (length rows.old) (rows_from held.now.tape.bytes.now held.now.tape.layout held.now.tape.layout.entries origin) }
@@ -131,7 +132,7 @@ fn check_name(tape: &Tape, seen: &[Row], p: Place) -> Result<(), Refused>
     }
 }
 
-// The names of a registry.
+// The names of a registry. A table of its own, for as many definitions as a registry can have: the index is lent it (`Index::new`).
 fn check_registry(tape: &Tape) -> Result<(), Refused>
     ensures { result ≡ build_at tape.now.bytes.now tape.now.layout (index_at tape.now.bytes.now tape.now.layout 255) }
 {

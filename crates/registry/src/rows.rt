@@ -77,7 +77,7 @@ impl Index<'_, '_> {
     }
 }
 
-// A definition ends where the next row's begins, and the last one where the entries end.
+// A definition ends where the next row's begins, and the last one where the entries end. A layout is enough: no byte is read.
 #[tactic(auto, unfolding(crate::specs::Places::end_of))]
 fn end_of(l: Layout, behind: &[Row]) -> usize
     ensures { result ≡ end_of l behind.now }
