@@ -18,6 +18,8 @@ pub struct Params {
     pub count: u64,
 }
 
+// A match, here and in `is_below`: with `is_none_or`, whose clause is a match of the option itself, the goal stays open (tried, with a lemma
+// for the two cases too).
 #[tactic(auto, using(crate::proofs::Less::less_texts))]
 fn is_above(tape: &Tape, floor: Option<Name>, name: Name) -> bool
     ensures { result ≡ above (spelled tape.now.bytes.now tape.now.layout floor) (name_at tape.now.bytes.now tape.now.layout name) }
@@ -49,6 +51,7 @@ fn lower_of(tape: &Tape, floor: Option<Name>, best: Option<Name>, name: Name) ->
     best
 }
 
+// The loop goes on behind each name, and ends where no parameter stands (`check_parts` says what the other two loops do).
 #[tactic(auto, using(crate::proofs::Params::least_next, crate::proofs::Params::least_end, crate::proofs::Params::least_done))]
 fn least_above(tape: &Tape, params: Params, floor: Option<Name>) -> Option<Name>
     ensures { spelled tape.now.bytes.now tape.now.layout result ≡ least_in (spelled tape.now.bytes.now tape.now.layout floor) none (names_at tape.now.bytes.now tape.now.layout params.place params.count) }
