@@ -36,7 +36,8 @@ fn sigil_shape(s: &Substitution, p: Place) -> u8
     let Some((size, _)) = expect(&s.definition, p, code::SIGIL_PARAM) else {
         return code::SIGIL_REF;
     };
-    s.arg_for(named(p, size)).map_or(code::SIGIL_REF, |arg| arg.root)
+    s.arg_for(named(p, size))
+        .map_or(code::SIGIL_REF, |arg| arg.root)
 }
 
 // The fields of a refinement stand behind the condition that was written at entry `base`: a predicate takes them over, and any other
