@@ -68,7 +68,8 @@ fn has_room(size: usize, out: Writer, entries: usize, bytes: usize) -> bool
         && has_area(size, out.base)
 }
 
-// Writes the codes and values of entries whose text, of `bytes` bytes, stands there already.
+// Writes the codes and values of entries whose text, of `bytes` bytes, stands there already. Room is asked for, here and below, and is no
+// part of a writer: how much is wanted is another each time.
 fn write_heads(s: &mut [u8], out: Writer, codes: &[u8], values: &[u8], bytes: usize) -> Writer
     requires { RoomFor (length s.old) out (length codes.now) bytes }
     ensures { area_in result s.new ≡ area_in (grown out (length codes.now) bytes) (headed s.old out codes.now values.now) }

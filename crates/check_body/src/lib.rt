@@ -60,6 +60,6 @@ pub fn check(definition: &[u8], message: &mut [u8]) -> Answer
     ensures { answer_with result [] [] message.new ≡ check_answer (length message.old) definition.now }
 {
     answer_tape(definition, DEFINITION, message, |tape| {
-        verdict(tape, Place { at: 0, text: 0 })
+        verdict(tape, Place::START)
     })
 }

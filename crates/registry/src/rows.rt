@@ -18,7 +18,7 @@ pub struct Row {
 impl Row {
     // What a table has before it is written.
     pub const EMPTY: Row = Row {
-        place: Place { at: 0, text: 0 },
+        place: Place::START,
         key: 0,
     };
 }

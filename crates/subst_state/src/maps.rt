@@ -37,8 +37,8 @@ pub struct Argument {
 impl Argument {
     // What a table of arguments holds before they are found.
     pub const NONE: Argument = Argument {
-        from: Place { at: 0, text: 0 },
-        to: Place { at: 0, text: 0 },
+        from: Place::START,
+        to: Place::START,
         root: 0,
         size: 0,
     };

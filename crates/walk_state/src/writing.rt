@@ -27,7 +27,7 @@ impl<'a> Cursor<'a> {
         ensures started { state_at result ≡ state (record { at = 0; text = 0 }) (empty_at 0) 0 }
     {
         Cursor {
-            place: Place { at: 0, text: 0 },
+            place: Place::START,
             bytes,
             out: area::empty(0),
             charged: 0,
@@ -40,7 +40,7 @@ impl<'a> Cursor<'a> {
         ensures unchanged { self.new.bytes.now ≡ self.old.bytes.now }
         ensures started { state_at self.new ≡ state (record { at = 0; text = 0 }) (empty_at 0) 0 }
     {
-        self.place = Place { at: 0, text: 0 };
+        self.place = Place::START;
         self.out = area::empty(0);
         self.charged = 0;
     }
