@@ -21,7 +21,7 @@ use Rattle.tape.specs.declared.layout.Place.{Place}
 use Rattle.tape.proofs.Located.{past, past_append, past_at, Inside, inside_front, inside_back, inside_next, inside_skip}
 use Rattle.tape.proofs.Runs.{run_code, run_value}
 use Rattle.tape.proofs.Trees.{passes_condition}
-use Rattle.de_morgan.specs.declared.Side.{Side}
+use Rattle.de_morgan.specs.declared.rewriting.Side.{Side}
 use Rattle.de_morgan.specs.Rewritten.{negation, sides_after, sides_with, heads_of, heads_from}
 
 -- ------------------------------------------------------------------ entries without their texts

@@ -17,8 +17,8 @@ use Rattle.tape.specs.Layouts.{code_at, value_at, width_at, text_behind}
 use Rattle.tape.specs.Pick.{pick}
 use Rattle.tape.specs.declared.layout.Layout.{Layout}
 use Rattle.de_morgan.specs.Rewritten.{negation, heads_of, heads_from, put_head, put_heads, EntriesPut, SideBegun, SideAdded}
-use Rattle.de_morgan.specs.declared.Side.{Side}
-use Rattle.de_morgan.specs.declared.Rewriting.{Rewriting}
+use Rattle.de_morgan.specs.declared.rewriting.Side.{Side}
+use Rattle.de_morgan.specs.declared.rewriting.Rewriting.{Rewriting}
 
 pub put_append : (n at : ℕ) (es fs : List Entry) (out : List ℕ)
     → put_heads n at (es ++ fs) out ≡ put_heads n (at + length es) fs (put_heads n at es out)

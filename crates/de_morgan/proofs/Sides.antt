@@ -16,8 +16,8 @@ use Rattle.format.specs.Limits.{weigh}
 use Rattle.tape.specs.Scan.{skip_at}
 use Rattle.tape.specs.declared.layout.Layout.{Layout}
 use Rattle.tape.specs.declared.layout.Place.{Place}
-use Rattle.de_morgan.specs.declared.Side.{Side}
-use Rattle.de_morgan.specs.declared.Rewriting.{Rewriting}
+use Rattle.de_morgan.specs.declared.rewriting.Side.{Side}
+use Rattle.de_morgan.specs.declared.rewriting.Rewriting.{Rewriting}
 use Rattle.de_morgan.proofs.Last.{on_top, last_none, last_some}
 use Rattle.de_morgan.specs.Rewritten.{right_of, negation, sides_after, sides_with, EntriesPut, SideBegun, SideAdded}
 use Rattle.de_morgan.proofs.Heads.{nothing_put}

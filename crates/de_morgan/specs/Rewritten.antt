@@ -13,8 +13,8 @@ use Rattle.tape.specs.Pick.{pick}
 use Rattle.tape.specs.Scan.{skip_at}
 use Rattle.tape.specs.declared.layout.Layout.{Layout}
 use Rattle.tape.specs.declared.layout.Place.{Place}
-use Rattle.de_morgan.specs.declared.Side.{Side}
-use Rattle.de_morgan.specs.declared.Rewriting.{Rewriting}
+use Rattle.de_morgan.specs.declared.rewriting.Side.{Side}
+use Rattle.de_morgan.specs.declared.rewriting.Rewriting.{Rewriting}
 
 -- ------------------------------------------------------------------ right sides that are still to come
 

@@ -12,8 +12,9 @@ ghost use Rattle.tape.specs.Ors.{coded, ors_from, ors_in};
 ghost use Rattle.tape.specs.Scan.{skip_at};
 ghost use Rattle.de_morgan.specs.Rewritten.{right_of, heads_from, put_heads, tape_in, rewritten_in, rewritten_layout, SideAdded};
 
+use crate::rewriting::{Rewriting, Side};
 use arrayvec::ArrayVec;
-use buffer::{value_bytes, write, write_size};
+use buffer::{write, write_size};
 use grammar::code;
 use grammar::codes::CONDITION;
 use grammar::kind::text_width;
@@ -23,77 +24,14 @@ use tape::ors::count_held;
 use tape::part::part_of;
 use tape::scan::skip;
 
-// A right side that is still to come: the entry where it begins, and the span of its Or.
-#[derive(Clone, Copy, Debug, PartialEq, Eq, Default)]
-struct Side {
-    at: usize,
-    span: u64,
-}
-
-// The codes and values of a tape of `n` entries, as far as they are put into its buffer, and the entry that comes next.
-#[derive(Drop)]
-struct Rewriting<'a> {
-    out: &'a mut [u8],
-    n: usize,
-    next: usize,
-}
-
-impl Rewriting<'_> {
-    ghost use Rattle.std.specs.Prelude.{[], ◌∷◌, ◌≤◌};
-    ghost use Rattle.format.specs.Entry.{entry};
-    ghost use Rattle.de_morgan.specs.Rewritten.{heads_of, EntriesPut, SideBegun};
-
-    // Puts the next entry's code and value.
-    #[tactic(auto, unfolding(crate::specs::Rewritten::put_heads))]
-    fn put(&mut self, code: u8, value: u64)
-        requires { (self.old.n ≤ 1024) × (self.old.next ≤ 4099) }
-        ensures { EntriesPut (entry code value ∷ []) self.old self.new }
-    {
-        write(self.out, 8 + self.next, &[code]);
-        write(self.out, 8 + self.n + 8 * self.next, &value_bytes(value));
-        self.next += 1;
-    }
-
-    // Puts what an entry becomes.
-    #[tactic(auto, unfolding(crate::specs::Rewritten::heads_of))]
-    fn put_entry(&mut self, code: u8, value: u64)
-        requires { (self.old.n ≤ 1024) × (self.old.next ≤ 4097) }
-        ensures { EntriesPut (heads_of code value) self.old self.new }
-    {
-        if code != code::OR {
-            self.put(code, value);
-            return;
-        }
-        self.put(code::NOT, value);
-        self.put(code::AND, value);
-        self.put(code::NOT, value);
-    }
-
-    // Puts the negation in front of entry `at`, if the nearest right side begins there. The nearest is the last that waits: they begin in
-    // that order, and at most one at an entry.
-    fn begin_side<const N: usize>(&mut self, sides: &mut ArrayVec<Side, N>, at: usize)
-        requires { (self.old.n ≤ 1024) × (self.old.next ≤ 4096) }
-        ensures { SideBegun at sides.old.items sides.new.items self.old self.new }
-    {
-        let Some(&side) = sides.as_slice().last() else {
-            return;
-        };
-        if side.at == at {
-            sides.pop();
-            self.put(code::NOT, side.span);
-        }
-    }
-}
+mod rewriting;
 
 // Where the right side of an Or begins whose left side stands at a place. At most 21 Ors stand on a path, since each weighs 3 in the
-// nesting, and so each entry is skipped 21 times at the most.
+// nesting, and so each entry is skipped 21 times at the most. Where no such side is, the definition has 0, at which none begins any more.
 fn right_side(tape: &Tape, left: Place) -> usize
     ensures { result ≡ right_of (skip_at tape.now.bytes.now tape.now.layout left 1) }
 {
-    let Some(p) = skip(tape, left, CONDITION) else {
-        return 0;
-    };
-    p.at
+    skip(tape, left, CONDITION).map_or(0, |p| p.at)
 }
 
 // Adds the right side that an entry brings, if it is an Or. Its left side stands at `next`.
@@ -116,6 +54,7 @@ fn add_side<const N: usize>(
 }
 
 // Puts codes and values of what the entries of a layout become. Each Or becomes four entries, so 1,024 entries come of 256 Ors at the most.
+// `n` is a number here, as `rewrite` has found and tested it; what puts the entries holds that it is small.
 #[tactic(auto, using(crate::proofs::Among::or_left), unfolding(crate::specs::Rewritten::heads_from, crate::specs::Rewritten::put_heads))]
 fn put_all(out: &mut [u8], n: usize, held: &HeldTape)
     requires { (n ≤ 1024) × (ors_from held.now.tape.bytes.now held.now.tape.layout 0 ≤ 256) }
@@ -154,7 +93,7 @@ fn write_tape(out: &mut [u8], n: usize, held: &HeldTape)
 
 // Writes the rewritten tape at the front of `out`, as far as it reaches, and answers its layout. Where the slice does not hold the
 // layout, or the tape would have more than 1,024 entries, both of which acceptance rules out, nothing is written, and the layout has no
-// entry.
+// entry: it is no None, as the definition has it, so that nothing is asked of a caller.
 #[tactic(auto, using(tape::proofs::Counting::ors_most))]
 pub fn rewrite(tape: &Tape, out: &mut [u8]) -> Layout
     ensures layout { result ≡ rewritten_layout tape.now.bytes.now tape.now.layout }
@@ -180,7 +119,8 @@ pub fn rewritten_in<'a>(tape: &Tape, out: &'a mut [u8]) -> Tape<'a>
     Tape { bytes: out, layout }
 }
 
-// Whether no code is a 2. Each is looked at, found or not, so that the compiler takes many at once.
+// Whether no code is a 2. Each is looked at, found or not, so that the compiler takes many at once. It is no count of Ors that is 0, which
+// `tape::ors::count_ors` has: over 1,024 codes a count takes 1,008 instructions, and this 342.
 #[tactic(auto, using(crate::proofs::Among::none_step, crate::proofs::Among::none_end))]
 fn none_among(codes: &[u8]) -> bool
     ensures { result ≡ eqb (tally 2 (coded codes.now)) 0 }

@@ -12,10 +12,8 @@ use Rattle.de_morgan.proofs.put_all.Goals as goal
 
 pub put_entry-requires : goal.put_entry-requires
 put_entry-requires c = let l = c.loop-at in
-    let begun = c.begin_side.ensures.put in (
-      omega (arith, begun.same_n, l.invariant.3, c.requires.0),
-      omega (arith, begun.next_is, one_negation l.at (reverse l.sides.items), l.invariant.2, c.loop-at-test.true, c.args.held.now.held.entries_most),
-    )
+    let begun = c.begin_side.ensures.put in
+    omega (arith, begun.next_is, one_negation l.at (reverse l.sides.items), l.invariant.2, c.loop-at-test.true, c.args.held.now.held.entries_most)
 
 pub loop-at-preserved : goal.loop-at-preserved
 loop-at-preserved c = let l = c.loop-at in

@@ -2,7 +2,7 @@
 -- not find them.
 use Rattle.std.proofs.Common.{sym}
 use Rattle.de_morgan.proofs.Sides.{none_waits, other_waits, side_begins}
-use Rattle.de_morgan.proofs.Rewriting.begin_side.Goals as goal
+use Rattle.de_morgan.proofs.rewriting.Rewriting.begin_side.Goals as goal
 
 pub returns-in_default : goal.returns-in_default
 returns-in_default g c = none_waits _ _ (sym (rw (c.as_slice.ensures.value, c.in_default.is) at c.last.ensures.value))

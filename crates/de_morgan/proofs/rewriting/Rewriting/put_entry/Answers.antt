@@ -2,7 +2,7 @@
 -- calls, which `search` does not join.
 use Rattle.de_morgan.specs.Rewritten.{heads_of}
 use Rattle.de_morgan.proofs.Heads.{three_put}
-use Rattle.de_morgan.proofs.Rewriting.put_entry.Goals as goal
+use Rattle.de_morgan.proofs.rewriting.Rewriting.put_entry.Goals as goal
 
 pub returns : goal.returns
 unfolding heads_of
