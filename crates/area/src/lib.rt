@@ -115,7 +115,8 @@ pub fn append_run(s: &mut [u8], out: Writer, codes: &[u8], values: &[u8], text: 
     }
 }
 
-// Appends an entry without text.
+// Appends an entry without text. Its code and its value are two parameters, here and wherever one is written, since they stand in two
+// sections; what reads an entry and wants more of it has a `Head` (grammar, profile).
 #[tactic(auto, unfolding(crate::specs::Area::put_in))]
 pub fn put(s: &mut [u8], out: Writer, code: u8, value: u64) -> Writer
     ensures { area_in result s.new ≡ put_in code value (area_in out s.old) }
