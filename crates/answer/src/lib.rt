@@ -15,6 +15,7 @@ use area::finish;
 use buffer::zero;
 use messages::Refused;
 use nodes::Span;
+use std::fmt;
 use tape::accept::accept;
 use tape::layout::Tape;
 use walk_state::writing::Cursor;
@@ -29,12 +30,27 @@ pub struct Answer {
     pub charged: u32,
 }
 
+// As the programs print it: number, start, end and charged.
+impl fmt::Display for Answer {
+    ghost use Rattle.std.specs.Prelude.{Some};
+    ghost use Rattle.answer.specs.Text.{answer_text};
+
+    ghost output = { λ r. Some (answer_text r) };
+
+    fn fmt<W: fmt::Write>(&self, f: &mut fmt::Formatter<W>) -> fmt::Result {
+        let number = self.number;
+        let Span { start, end } = self.span;
+        let charged = self.charged;
+        write!(f, "{number} {start} {end} {charged}")
+    }
+}
+
 // How long each buffer is at the least, under the names of `include/neukolja.h` (document 01).
-const RESULT_SIZE: usize = 12296;
+pub const RESULT_SIZE: usize = 12296;
 
-const WORK_SIZE: usize = 65536;
+pub const WORK_SIZE: usize = 65536;
 
-const MESSAGE_SIZE: usize = 2048;
+pub const MESSAGE_SIZE: usize = 2048;
 
 // Whether the three buffers are as long as document 01 asks.
 #[tactic(auto, unfolding(definition::specs::Answers::long_buffers))]
@@ -58,8 +74,7 @@ pub fn long_result(len: usize) -> bool
     RESULT_SIZE <= len
 }
 
-// A number with the span 0..0 and no message, zeros in every buffer: success, and what comes before a walk. The 0 that functions here
-// give it is that success, which they are about.
+// A number with the span 0..0 and no message, zeros in every buffer: success, and what comes before a walk.
 #[tactic(auto, unfolding(crate::specs::Matches::ended, definition::specs::Answers::open_answers, definition::specs::Outcome::open_outcome))]
 pub fn number_alone(
     number: u32,
@@ -81,7 +96,7 @@ pub fn number_alone(
     }
 }
 
-// A refusal of a walk. The names of its message stand on the definition's tape and the call's.
+// A refusal of a walk. The names of its message stand on the definition's tape and the call's, the two that document 01 has lent.
 pub fn refuse<'a>(
     definition: &Tape<'a>,
     call: &Tape<'a>,
@@ -106,7 +121,8 @@ pub fn refuse<'a>(
     }
 }
 
-// A refusal that comes before a walk, of an operation that has a message buffer alone.
+// A refusal that comes before a walk, of an operation that has a message buffer alone. It and the three behind it say each of its own
+// buffers alone; one function would ask every caller for empty ones.
 #[tactic(auto, using(crate::proofs::Ends::message_alone_lem), unfolding(definition::specs::Answers::number_alone))]
 pub fn refuse_number(number: u32, message: &mut [u8]) -> Answer
     ensures { answer_with result [] [] message.new ≡ ended (message_alone (length message.old)) (number_alone number) }
@@ -135,7 +151,7 @@ pub fn refuse_result(number: u32, res: &mut [u8]) -> Answer
 pub fn result_written() -> Answer
     ensures { answer_with result [] [] [] ≡ ended (result_alone 0) (number_alone 0) }
 {
-    number_alone(0, 0, &mut [], &mut [], &mut [])
+    number_alone(numbers::OK, 0, &mut [], &mut [], &mut [])
 }
 
 // The answer of a verdict, of an operation that has one tape and a message buffer alone, and charges nothing.
@@ -143,7 +159,7 @@ pub fn answer_verdict(tape: &Tape, verdict: Result<(), Refused>, message: &mut [
     ensures { AnswersVerdict tape.now.bytes.now tape.now.layout verdict (message_alone (length message.old)) (answer_with result [] [] message.new) }
 {
     match verdict {
-        Ok(()) => number_alone(0, 0, &mut [], &mut [], message),
+        Ok(()) => number_alone(numbers::OK, 0, &mut [], &mut [], message),
         Err(r) => refuse(tape, tape, r, 0, &mut [], &mut [], message),
     }
 }
@@ -188,7 +204,7 @@ pub fn answer_walk<'a>(
     match walked {
         Ok(()) => {
             finish(work, out, res);
-            number_alone(0, charged, &mut [], work, message)
+            number_alone(numbers::OK, charged, &mut [], work, message)
         }
         Err(r) => refuse(definition, call, r, charged, res, work, message),
     }

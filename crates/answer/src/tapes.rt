@@ -1,4 +1,5 @@
-// The tapes of an operation that has two, accepted in their order.
+// The tapes of an operation that has two, accepted in their order. Acceptance answers a layout, of which the laws of the operations
+// speak, and each operation puts it beside the bytes that it is lent.
 ghost use Rattle.std.specs.Prelude.{◌≡◌};
 ghost use Rattle.answer.specs.Tapes.{accept_two};
 
