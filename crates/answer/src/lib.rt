@@ -45,7 +45,7 @@ impl fmt::Display for Answer {
     }
 }
 
-// How long each buffer is at the least, under the names of `include/neukolja.h` (document 01).
+// How long each buffer is at the least, under the names of `include/neukolja.h` (document 01). No tape is longer than the result's.
 pub const RESULT_SIZE: usize = 12296;
 
 pub const WORK_SIZE: usize = 65536;

@@ -1,11 +1,12 @@
 // Document 01's fourteen bench cases, each an expansion by the operation itself. Prints case, number, start, end and charged.
 #![tactic(auto)]
 
+use answer::{MESSAGE_SIZE, RESULT_SIZE, WORK_SIZE};
 use std::io;
 use tape::part::part_of;
 
 fn main(rt: HostRuntime) -> io::Result<()> {
-    let mut registry = [0u8; 12296];
+    let mut registry = [0u8; RESULT_SIZE];
     let n = samples::registry(&mut registry);
     run_all(&rt, part_of(&registry, 0, n))
 }
@@ -29,20 +30,21 @@ fn limit_of(case: u32) -> u32 {
 }
 
 fn run(rt: &impl Print, case: u32, registry: &[u8]) -> io::Result<()> {
-    let mut condition = [0u8; 12296];
+    let mut condition = [0u8; RESULT_SIZE];
     let n = samples::condition(case, &mut condition);
     expand(rt, case, registry, part_of(&condition, 0, n))
 }
 
+// The buffers stand here, since the operation is lent them.
 fn expand<'a>(
     rt: &impl Print,
     case: u32,
     registry: &'a [u8],
     condition: &'a [u8],
 ) -> io::Result<()> {
-    let mut result = [0u8; 12296];
-    let mut work = [0u8; 65536];
-    let mut message = [0u8; 2048];
+    let mut result = [0u8; RESULT_SIZE];
+    let mut work = [0u8; WORK_SIZE];
+    let mut message = [0u8; MESSAGE_SIZE];
     let answer = expansion::expand_lent(
         registry,
         condition,
@@ -53,9 +55,5 @@ fn expand<'a>(
         &mut message,
         &mut [],
     );
-    let span = answer.span;
-    println!(rt;
-        "{case} {} {} {} {}",
-        answer.number, span.start, span.end, answer.charged
-    )
+    println!(rt; "{case} {answer}")
 }

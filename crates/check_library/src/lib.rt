@@ -77,7 +77,8 @@ fn put_list(index: &Index, list: &mut Message)
     }
 }
 
-// 10 and 11, or the list and zeros behind it. The registry, which has 255 definitions at the most, is indexed once.
+// 10 and 11, or the list and zeros behind it. The registry, which has 255 definitions at the most, is indexed once, in a table that stands
+// here: there is no heap, and a vector of the index's own would be copied with it.
 #[tactic(auto, using(crate::proofs::Steps::not_listed))]
 fn list_registry(tape: &Tape, list: &mut [u8]) -> Result<(), Refused>
     ensures { listing result list.new ≡ listed_in tape.now.bytes.now tape.now.layout 255 list.old }
@@ -125,7 +126,7 @@ pub fn check_library(registry: &[u8], res: &mut [u8], message: &mut [u8]) -> Ans
 
 // ------------------------------------------------------------------ one definition
 
-// 10 and 11, or the check of the definition at an index.
+// 10 and 11, or the check of the definition at an index, in a table as above.
 #[tactic(auto, using(crate::proofs::Steps::named_checked, crate::proofs::Steps::named_refused))]
 fn check_registry(tape: &Tape, i: usize) -> Result<(), Refused>
     ensures { result ≡ checked_in tape.now.bytes.now tape.now.layout 255 i }

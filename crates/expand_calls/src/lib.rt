@@ -7,6 +7,7 @@ ghost use Rattle.expand_calls.specs.Output.{reads_of, going_at, Expands};
 ghost use Rattle.expand_calls.specs.Calls.{resolve_in, condition_macro_in, value_macro_in, calls_value_in, above, apply_in, outcome_in};
 
 use crate::output::Expansion;
+use answer::WORK_SIZE;
 use area::{Writer, empty};
 use grammar::code;
 use grammar::codes::CALL;
@@ -84,7 +85,7 @@ pub fn calls_value(x: &Expansion, p: Place) -> bool
 pub fn level_above(out: Writer) -> Writer
     ensures { result ≡ above out }
 {
-    if out.base <= 65536 {
+    if out.base <= WORK_SIZE {
         return empty(out.base + 12288);
     }
     empty(out.base)
@@ -121,7 +122,7 @@ fn apply(
 }
 
 // A call whose arguments are expanded, at the level above `out`: 3 if it is too large; then the substitution, whose outcome is
-// appended behind what its level holds already.
+// appended behind what its level holds already. That level is told by its writer alone, since the cursor has the slice of both.
 #[tactic(auto, unfolding(crate::specs::Calls::outcome_in, crate::specs::Calls::into_in))]
 pub fn outcome(
     x: &Expansion,

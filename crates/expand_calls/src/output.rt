@@ -16,7 +16,8 @@ use tape::layout::{Place, Tape};
 use tape::scan::skip;
 use walk_state::writing::Cursor;
 
-// The registry with the rows of its definitions, the condition's tape, the budget's limit, and the file number.
+// The registry with the rows of its definitions, the condition's tape, the budget's limit, and the file number. The cursor and the result
+// buffer stand beside it in what walks: a struct that holds a `&mut`, nested in another, does not tell the lender its final value.
 #[derive(Clone, Copy, Debug)]
 pub struct Expansion<'a, 'b> {
     pub registry: Index<'a, 'b>,
@@ -60,6 +61,7 @@ pub fn copy_own_after(
 
 // The code of the condition that the one at a place came out as. It is read from the input, since a full output has it no more; a
 // call's outcome stands at the start of the result buffer. The one of `subst_places` reads a body, where a `?` comes out as an argument.
+// 0, which is no code, where there is no entry: so the definition has it, and a fold takes it for no predicate.
 #[tactic(auto, unfolding(crate::specs::Output::shape_in))]
 fn shape_of(cond: &Tape, res: &[u8], p: Place) -> u8
     ensures { result ≡ shape_in cond.now.bytes.now cond.now.layout res.now p }
@@ -76,14 +78,10 @@ fn shape_of(cond: &Tape, res: &[u8], p: Place) -> u8
 }
 
 // The code of the outcome's root: the substitution has just written it to the front of the result buffer.
-#[tactic(auto, using(crate::proofs::Steps::no_first))]
 fn first_code(res: &[u8]) -> u8
     ensures { result ≡ get_or res.now 0 0 }
 {
-    if res.is_empty() {
-        return 0;
-    }
-    res[0]
+    res.first().copied().unwrap_or(0)
 }
 
 // The fields behind a base that was written at entry `base`, and their fold. They are not inspected. `p` is where the base stands in

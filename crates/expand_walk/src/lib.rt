@@ -1,6 +1,7 @@
 // The walk over a condition: what has no macro in it is copied, and a call becomes what its macro makes of it. `nesting` is what is left
 // of it where a node is read, and `n` what is left below the node. The functions stand in the Rust's order and have the Rust's names
-// without their `temporal_`, each with its helpers behind it.
+// without their `temporal_`, each with its helpers behind it. `x`, `c` and `res` stand side by side: a struct that holds a `&mut`, nested
+// in another, does not tell the lender its final value.
 #![tactic(auto)]
 
 ghost use Rattle.std.specs.Prelude.{◌≡◌, Ok};

@@ -12,7 +12,7 @@ ghost use Rattle.expand_calls.specs.Output.{Expands, reads_of, came_to};
 ghost use Rattle.expansion.specs.Expansion.{EndsExpansion, after_walk, whole_in, named_in};
 
 use answer::tapes::accept_two;
-use answer::{Answer, answer_walk, long_buffers, number_alone};
+use answer::{Answer, RESULT_SIZE, answer_walk, long_buffers, number_alone};
 use de_morgan::{rewritten_in, without_or};
 use expand_calls::output::Expansion;
 use expand_counts::count_calls;
@@ -58,7 +58,8 @@ fn expand_counting(
     Ok(())
 }
 
-// 10 and 11, then the walk. The registry, which has 255 definitions at the most, is indexed once.
+// 10 and 11, then the walk. The registry, which has 255 definitions at the most, is indexed once, in a table that stands here: there is no
+// heap, and a vector of the index's own would be copied with it.
 #[tactic(auto, unfolding(crate::specs::Expansion::named_in, crate::specs::Expansion::after_walk))]
 fn expand_tapes(
     registry: &Tape,
@@ -117,8 +118,8 @@ fn expand_rewritten(
 ) -> Answer
     ensures { EndsExpansion (rewritten_in registry.now.bytes.now registry.now.layout (replicate 12296 0)) (rewritten_layout registry.now.bytes.now registry.now.layout) (rewritten_in condition.now.bytes.now condition.now.layout (replicate 12296 0)) (rewritten_layout condition.now.bytes.now condition.now.layout) limit file work.old res.old (buffers (length res.old) (length work.old) (length message.old)) counts.old (answer_with result res.new work.new message.new) counts.new }
 {
-    let mut first = [0u8; 12296];
-    let mut second = [0u8; 12296];
+    let mut first = [0u8; RESULT_SIZE];
+    let mut second = [0u8; RESULT_SIZE];
     let registry = rewritten_in(registry, &mut first);
     let condition = rewritten_in(condition, &mut second);
     expand_in(
@@ -127,7 +128,8 @@ fn expand_rewritten(
 }
 
 // The operation on a registry and a condition, `input`: the answer, every byte of the three buffers and every count are what the
-// definition says, for every input, every buffer and every state. The state is lent: what it holds is read and written.
+// definition says, for every input, every buffer and every state. The state is lent: what it holds is read and written. The parameters,
+// the limit and the file number among them, are those of `include/neukolja.h`.
 pub fn expand_lent<'a>(
     reg: &'a [u8],
     input: &'a [u8],

@@ -2,14 +2,14 @@
 // number, start, end and charged, as `cases` does; a refused registry or sheet is one line with place 0.
 #![tactic(auto)]
 
-use answer::Answer;
+use answer::{MESSAGE_SIZE, RESULT_SIZE, WORK_SIZE};
 use buffer::read_size;
 use sheet::Progress;
 use std::io;
 use std::io::Read;
 
-// The longest input, 4 + 12,296 + 65,536 bytes, and one more: a sheet that fills it is too long.
-const ROOM: usize = 77837;
+// The longest input, 4 bytes, a registry and a sheet of 65,536 bytes, and one more: a sheet that fills it is too long.
+const ROOM: usize = 4 + RESULT_SIZE + 65536 + 1;
 
 fn main(rt: HostRuntime) -> io::Result<()> {
     let mut input = [0; ROOM];
@@ -30,23 +30,24 @@ fn run(rt: &impl Print, input: &[u8]) -> io::Result<()> {
 fn split(input: &[u8]) -> Option<(&[u8], &[u8])> {
     let (_, tapes) = input.split_at_checked(4)?;
     let length = read_size(input, 0) as usize;
-    if 12296 < length {
+    if RESULT_SIZE < length {
         return None;
     }
     tapes.split_at_checked(length)
 }
 
 fn expand_sheet<'a>(rt: &impl Print, registry: &'a [u8], sheet: &'a [u8]) -> io::Result<()> {
-    let mut message = [0u8; 2048];
+    let mut message = [0u8; MESSAGE_SIZE];
     let opened = sheet::open(registry, sheet, 1000, 0, &mut message);
     let answer = opened.answer;
     if answer.number != numbers::OK {
-        return print_answer(rt, 0, answer);
+        return println!(rt; "0 {answer}");
     }
     let p = opened.progress;
     lend_buffers(rt, registry, sheet, p, &mut message)
 }
 
+// The buffers stand here, since each step is lent them.
 fn lend_buffers<'a>(
     rt: &impl Print,
     registry: &'a [u8],
@@ -54,8 +55,8 @@ fn lend_buffers<'a>(
     p: Progress,
     message: &mut [u8],
 ) -> io::Result<()> {
-    let mut result = [0u8; 12296];
-    let mut work = [0u8; 65536];
+    let mut result = [0u8; RESULT_SIZE];
+    let mut work = [0u8; WORK_SIZE];
     let mut counts = [0u32; 255];
     print_steps(
         rt,
@@ -83,15 +84,7 @@ fn print_steps<'a>(
     for i in 0..start.left {
         let step = sheet::next(registry, sheet, p, res, work, message, counts);
         p = step.progress;
-        print_answer(rt, i + 1, step.answer)?;
+        println!(rt; "{} {}", i + 1, step.answer)?;
     }
     Ok(())
-}
-
-fn print_answer(rt: &impl Print, place: u64, answer: Answer) -> io::Result<()> {
-    let span = answer.span;
-    println!(rt;
-        "{place} {} {} {} {}",
-        answer.number, span.start, span.end, answer.charged
-    )
 }

@@ -55,7 +55,8 @@ fn is_ours(
 }
 
 // The operation on a registry, a condition, `input`, and the supplier's result: the answer and every byte of the three buffers are what
-// the definition says, for every input and all buffers.
+// the definition says, for every input and all buffers. Its parameters, the limit and the file number among them, are those of
+// `include/neukolja.h`.
 #[tactic(auto, using(format::proofs::Accepted::bytes_all, crate::proofs::Operation::short, crate::proofs::Operation::refused), unfolding(definition::specs::Answers::number_alone))]
 pub fn judge<'a>(
     registry: &'a [u8],

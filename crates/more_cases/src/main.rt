@@ -2,11 +2,12 @@
 // charged for each, and for the first whether the result is the tape of `P{f: 2}` with zeros behind it.
 #![tactic(auto)]
 
+use answer::{MESSAGE_SIZE, RESULT_SIZE, WORK_SIZE};
 use std::io;
 use tape::part::part_of;
 
 fn main(rt: HostRuntime) -> io::Result<()> {
-    let mut registry = [0u8; 12296];
+    let mut registry = [0u8; RESULT_SIZE];
     let n = samples::registry(&mut registry);
     run(&rt, part_of(&registry, 0, n))
 }
@@ -19,20 +20,21 @@ fn run(rt: &impl Print, registry: &[u8]) -> io::Result<()> {
 
 // e(1, 2)
 fn given_twice(rt: &impl Print, registry: &[u8]) -> io::Result<()> {
-    let mut condition = [0u8; 12296];
+    let mut condition = [0u8; RESULT_SIZE];
     let n = samples::condition(15, &mut condition);
     print!(rt; "e(1, 2): ")?;
     compare(rt, registry, part_of(&condition, 0, n))
 }
 
+// The buffers stand in these functions, since an operation is lent them.
 fn compare<'a>(rt: &impl Print, registry: &'a [u8], condition: &'a [u8]) -> io::Result<()> {
-    let mut result = [0u8; 12296];
+    let mut result = [0u8; RESULT_SIZE];
     expand(rt, registry, condition, &mut result, " ")?;
     say_whether(rt, &result)
 }
 
 fn say_whether(rt: &impl Print, res: &[u8]) -> io::Result<()> {
-    let mut wanted = [0u8; 12296];
+    let mut wanted = [0u8; RESULT_SIZE];
     samples::condition(16, &mut wanted);
     if res == wanted.as_slice() {
         println!(rt; "P{{f: 2}}")
@@ -50,7 +52,7 @@ fn long(rt: &impl Print, registry: &[u8], entries: u32) -> io::Result<()> {
 }
 
 fn expand_alone<'a>(rt: &impl Print, registry: &'a [u8], condition: &'a [u8]) -> io::Result<()> {
-    let mut result = [0u8; 12296];
+    let mut result = [0u8; RESULT_SIZE];
     expand(rt, registry, condition, &mut result, "\n")
 }
 
@@ -61,8 +63,8 @@ fn expand<'a>(
     res: &mut [u8],
     behind: &str,
 ) -> io::Result<()> {
-    let mut work = [0u8; 65536];
-    let mut message = [0u8; 2048];
+    let mut work = [0u8; WORK_SIZE];
+    let mut message = [0u8; MESSAGE_SIZE];
     let answer = expansion::expand_lent(
         registry,
         condition,
@@ -73,9 +75,5 @@ fn expand<'a>(
         &mut message,
         &mut [],
     );
-    let span = answer.span;
-    print!(rt;
-        "{} {} {} {}{behind}",
-        answer.number, span.start, span.end, answer.charged
-    )
+    print!(rt; "{answer}{behind}")
 }

@@ -9,7 +9,7 @@ ghost use Rattle.de_morgan.specs.Rewritten.{rewritten_in, rewritten_layout};
 ghost use Rattle.answer.specs.Matches.{answer_with};
 ghost use Rattle.older.specs.Roots.{sort_of, AnswersOlder};
 
-use answer::{Answer, long_result, refuse_result, result_written};
+use answer::{Answer, RESULT_SIZE, long_result, refuse_result, result_written};
 use de_morgan::{none_on, rewritten_in};
 use grammar::code;
 use grammar::codes::{CALL, CONDITION, DEFINITION, DEFINITIONS, TERM};
@@ -57,7 +57,7 @@ fn older_in(tape: &Tape, res: &mut [u8]) -> Answer
 fn older_rewritten(tape: &Tape, res: &mut [u8]) -> Answer
     ensures { AnswersOlder (rewritten_in tape.now.bytes.now tape.now.layout (replicate 12296 0)) (rewritten_layout tape.now.bytes.now tape.now.layout) (length res.old) (answer_with result res.new [] []) }
 {
-    older_in(&rewritten_in(tape, &mut [0u8; 12296]), res)
+    older_in(&rewritten_in(tape, &mut [0u8; RESULT_SIZE]), res)
 }
 
 // The operation: the answer and every byte of the result buffer are what the definition says, for every slice and every buffer.

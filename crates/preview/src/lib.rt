@@ -8,7 +8,7 @@ ghost use Rattle.answer.specs.Matches.{buffers};
 ghost use Rattle.definition.specs.Preview.{preview_answer, sizes_only};
 ghost use Rattle.preview.specs.Matches.{preview_with};
 
-use answer::Answer;
+use answer::{Answer, RESULT_SIZE};
 use buffer::read_size;
 use expansion::expand_lent;
 
@@ -50,7 +50,7 @@ fn preview_in<'a>(
 }
 
 // The operation on a registry and a condition: the seven numbers and every byte of the two buffers are what the definition says, for
-// every input and all buffers.
+// every input and all buffers. Its parameters, the limit and the file number among them, are those of `include/neukolja.h`.
 #[tactic(auto, using(definition::proofs::Preview::previews))]
 pub fn preview<'a>(
     registry: &'a [u8],
@@ -62,6 +62,6 @@ pub fn preview<'a>(
 ) -> Previewed
     ensures { preview_with result work.new message.new ≡ preview_answer (length work.old) (length message.old) limit file registry.now condition.now }
 {
-    let mut result = [0u8; 12296];
+    let mut result = [0u8; RESULT_SIZE];
     preview_in(registry, condition, limit, file, &mut result, work, message)
 }

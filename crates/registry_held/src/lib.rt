@@ -22,6 +22,7 @@ use tape::layout::{Layout, Tape, of_area};
 // What building a registry came to: the operation's answer, and how an accepted tape is laid out. The state is none of it: it is the
 // caller's, who has it first from `registry::counts::fresh`, and then from each expansion.
 // `expand` answers for a refused registry too, as the operation does; a Result would take that away.
+// No `Tape` is in it: document 01 names the form, a struct that keeps a reference to the lent tape, with thin functions over slices.
 #[derive(Clone, Copy, Debug, PartialEq, Eq)]
 pub struct Built {
     pub answer: Answer,

@@ -53,7 +53,9 @@ fn filled_by(s: &[u8], count: u32) -> bool
     rest.is_empty()
 }
 
-// Why a sheet is not opened: it is longer, or counts more conditions, than there may be; or its count and lengths do not fill it.
+// Why a sheet is not opened: it is longer, or counts more conditions, than there may be; or its count and lengths do not fill it. Its two
+// cases are named as those of `tape::header::Fault`, but their numbers are 57 and 2, not 3 and 2; and this crate is written over the
+// contracts of registry and expansion alone (document 01).
 #[derive(Clone, Copy, Debug, PartialEq, Eq)]
 enum SheetFault {
     TooLarge,
@@ -242,23 +244,22 @@ pub fn next<'a>(
 ) -> Step
     ensures { (answer_with result.answer res.new work.new message.new ≡ sheet_next_answer (buffers (length res.old) (length work.old) (length message.old)) registry.now sheet.now p) × (result.progress ≡ sheet_next_progress (buffers (length res.old) (length work.old) (length message.old)) registry.now sheet.now p) × (counts.new ≡ sheet_next_counts (buffers (length res.old) (length work.old) (length message.old)) registry.now sheet.now p counts.old) }
 {
-    if p.left == 0 {
+    let Some(left) = p.left.checked_sub(1) else {
         let answer = answer_done(res, work, message);
         return Step {
             answer,
             progress: p,
         };
-    }
+    };
     let answer = expand_next(registry, sheet, p, res, work, message, counts);
     let at = behind_condition(sheet, p.at);
     Step {
         answer,
         progress: Progress {
             at,
-            left: p.left - 1,
+            left,
             charged: p.charged + answer.charged as u64,
-            budget: p.budget,
-            file: p.file,
+            ..p
         },
     }
 }

@@ -1,5 +1,7 @@
 // The front of a substitution: which macro is called, its arguments counted, its body charged, the body walked, the result measured.
-// Expansion comes here too, with a call that stands in its work buffer.
+// Expansion comes here too, with a call that stands in its work buffer. The cursor stands beside the substitution, which could not hold it:
+// a struct that holds a `&mut`, nested in another, does not tell the lender its final value. The limit and the file number stand beside
+// each other as C hands them in, until a `Substitution` has both.
 #![tactic(auto)]
 
 ghost use Rattle.std.specs.Prelude.{◌≡◌};

@@ -8,7 +8,7 @@ ghost use Rattle.definition.specs.Answers.{substitute_answer};
 ghost use Rattle.substitution.specs.Substituted.{AnswersSubstitution};
 
 use answer::tapes::accept_two;
-use answer::{Answer, answer_walk, long_buffers, number_alone};
+use answer::{Answer, RESULT_SIZE, answer_walk, long_buffers, number_alone};
 use de_morgan::{rewritten_in, without_or};
 use grammar::codes::{CALL, DEFINITION};
 use subst_call::substitute_tapes;
@@ -46,14 +46,15 @@ fn substitute_rewritten(
 ) -> Answer
     ensures { AnswersSubstitution (rewritten_in definition.now.bytes.now definition.now.layout (replicate 12296 0)) (rewritten_layout definition.now.bytes.now definition.now.layout) (rewritten_in call.now.bytes.now call.now.layout (replicate 12296 0)) (rewritten_layout call.now.bytes.now call.now.layout) limit file work.old (buffers (length res.old) (length work.old) (length message.old)) (answer_with result res.new work.new message.new) }
 {
-    let mut first = [0u8; 12296];
-    let mut second = [0u8; 12296];
+    let mut first = [0u8; RESULT_SIZE];
+    let mut second = [0u8; RESULT_SIZE];
     let definition = rewritten_in(definition, &mut first);
     let call = rewritten_in(call, &mut second);
     substitute_in(&definition, &call, limit, file, res, work, message)
 }
 
-// The operation: the answer and every byte of the three buffers are what the definition says, for every input and every buffer.
+// The operation: the answer and every byte of the three buffers are what the definition says, for every input and every buffer. Its
+// parameters, the limit and the file number among them, are those of `include/neukolja.h`.
 #[tactic(auto, using(format::proofs::Accepted::bytes_all, crate::proofs::Operation::short, crate::proofs::Operation::refused, crate::proofs::Operation::substituted, crate::proofs::Operation::substituted_rewritten), unfolding(definition::specs::Answers::number_alone))]
 pub fn substitute<'a>(
     definition: &'a [u8],
