@@ -28,7 +28,7 @@ use Rattle.nodes.proofs.Entries.{is_expected}
 use Rattle.nodes.proofs.Placed.{parts_call, parts_def}
 use Rattle.tape.proofs.Roots.{few_params_lem as few-params-of, nesting_64}
 use Rattle.format.proofs.Tests.{and_left, and_right}
-use Rattle.registry.specs.declared.rows.Definition.{Definition}
+use Rattle.nodes.specs.declared.Definition.{Definition}
 use Rattle.registry.specs.declared.rows.Row.{Row}
 use Rattle.registry.specs.Places.{key_of, end_of, get_at}
 use Rattle.registry.proofs.Standing.{Indexed, indexed_nil, indexed_cons, Ended, ended_nil, ended_cons, other_key}

@@ -18,7 +18,7 @@ use Rattle.messages.specs.Reason.{refused_at}
 use Rattle.messages.specs.declared.Reason.{Reason}
 use Rattle.messages.specs.declared.Reason.TheVariants.{UnknownMacro, CedarInCondition, CedarInValue, ValueAsCondition, ConditionAsValue}
 use Rattle.registry.specs.Places.{get_at}
-use Rattle.registry.specs.declared.rows.Definition.{Definition}
+use Rattle.nodes.specs.declared.Definition.{Definition}
 use Rattle.walk_state.specs.Writing as one
 use Rattle.walk_state.specs.Writing.{state}
 use Rattle.subst_call.specs.Front.{on_macro, macro_from, refuse_too_large_in, call_in}

@@ -26,7 +26,7 @@ fn resolve(x: &Expansion, call: Heading) -> Option<Macro>
 {
     let name = name_at(&x.condition, call.name);
     let found = x.registry.get(name)?;
-    macro_from(&x.registry.tape, found.heading, found.params, found.end)
+    macro_from(&x.registry.tape, found)
 }
 
 // 30, 31 or 32, unless the call names a condition macro. It stands beside `value_macro`, since their refusals are others: 32 or 33, and

@@ -139,10 +139,10 @@ module _ (R : Reads) where
     -- 34; the call with its arguments at the next level; what it becomes
     unfoldable pub called_in : Macro → Heading → State → Place → Place → List ℕ → List ℕ → Progress
     called_in def call st p first work result =
-        pick (eqb def.head.count call.count)
+        pick (eqb def.definition.heading.count call.count)
         (outcome_in R.registry R.definitions R.limit R.file def call st.out
         (items_in arg_in call.count (own_copied (state p (above st.out) st.charged) (Ok first) work result)))
-        (stop (wrong_count def.head call) st work result)
+        (stop (wrong_count def.definition.heading call) st work result)
 
     abbrev pub on_callee : Heading → State → Place → Place → List ℕ → List ℕ → Result Macro Refused → Progress
     on_callee call st p first work result (Ok def) = called_in def call st p first work result

@@ -328,8 +328,9 @@ fn called(
 ) -> Result<(), Refused>
     ensures { Expands c.old c.new result res.new (called_in (reads_of x.now) (walkers (reads_of x.now) n) def call (one.state_at c.old) p first c.old.bytes.now res.old) }
 {
-    if def.head.count != call.count {
-        return Err(wrong_count(def.head, call));
+    let heading = def.definition.heading;
+    if heading.count != call.count {
+        return Err(wrong_count(heading, call));
     }
     let out = c.out;
     c.place = p;

@@ -37,7 +37,7 @@ use Rattle.area.specs.Area.{Area, area_in, empty_at, fits_area}
 use Rattle.messages.specs.Reason.{refused_at, message_of}
 use Rattle.messages.specs.declared.Reason.TheVariants.{WithoutMessage, Reserved}
 use Rattle.answer.specs.Matches.{VerdictMatches, OutcomeMatches}
-use Rattle.registry.specs.declared.rows.Definition.{Definition}
+use Rattle.nodes.specs.declared.Definition.{Definition}
 use Rattle.registry.specs.declared.rows.Row.{Row}
 use Rattle.registry.specs.Places.{duplicate_of, and_then_in, get_at, name_check, check_at, build_from_at, build_at, index_at}
 use Rattle.registry.proofs.Standing.{indexed_registry, ended_registry}

@@ -31,7 +31,7 @@ use Rattle.nodes.specs.declared.Name.{Name}
 use Rattle.nodes.proofs.Entries.{is_entry, is_spelled}
 use Rattle.nodes.proofs.Placed.{heading_entries, parts_def}
 use Rattle.registry.specs.Places.{key_of, get_at}
-use Rattle.registry.specs.declared.rows.Definition.{Definition}
+use Rattle.nodes.specs.declared.Definition.{Definition}
 use Rattle.registry.specs.declared.rows.Row.{Row}
 use Rattle.registry.proofs.Standing.{Indexed, indexed_nil, indexed_cons, Ended, ended_nil, ended_cons, other_key}
 use Rattle.merge.specs.Agree.{same_head, text_at, alike_at, on_alike, same_from, agree_at, against_found, compare_at}

@@ -10,7 +10,7 @@ use Rattle.tape.specs.Pick.{pick}
 use Rattle.tape.specs.Scan.{skip_at}
 use Rattle.nodes.specs.Node.{on_entry, on_place, on_heading, entry_at, heading_at, named, name_at}
 use Rattle.registry.specs.Places.{get_at}
-use Rattle.registry.specs.declared.rows.Definition.{Definition}
+use Rattle.nodes.specs.declared.Definition.{Definition}
 use Rattle.registry.specs.declared.rows.Row.{Row}
 use Rattle.tape.specs.declared.layout.Layout.{Layout}
 use Rattle.tape.specs.declared.layout.Place.{Place}

@@ -456,3 +456,11 @@ pub fn name_at<'a>(tape: &Tape<'a>, name: Name) -> &'a [u8]
     let from = text.get(name.text..).unwrap_or(&[]);
     from.get(..name.size).unwrap_or(&[])
 }
+
+// A definition that was found, its body unread: its heading, the place behind it, where the parameters stand, and the entry where it ends.
+#[derive(Clone, Copy, Debug, PartialEq, Eq)]
+pub struct Definition {
+    pub heading: Heading,
+    pub params: Place,
+    pub end: usize,
+}

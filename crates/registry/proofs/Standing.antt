@@ -33,7 +33,7 @@ use Rattle.tape.proofs.Runs.{place, run_code, run_value}
 use Rattle.nodes.proofs.Entries.{is_spelled}
 use Rattle.nodes.proofs.Placed.{parts_def, parts_defs}
 use Rattle.registry.specs.Places.{key_of, end_of, cons_if, key_at, rows_from, index_at, get_at}
-use Rattle.registry.specs.declared.rows.Definition.{Definition}
+use Rattle.nodes.specs.declared.Definition.{Definition}
 use Rattle.registry.specs.declared.rows.Row.{Row}
 use Rattle.tape.proofs.Holding.{holding}
 use Rattle.registry.proofs.Codes.{Inner, inner_params, inner_body}

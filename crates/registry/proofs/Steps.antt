@@ -32,7 +32,7 @@ use Rattle.nodes.specs.declared.Heading.{Heading}
 use Rattle.messages.specs.Reason.{without_message}
 use Rattle.messages.specs.declared.Refused.{Refused}
 use Rattle.registry.specs.Places.{origin, key_from, key_of, end_of, cons_if, key_at, rows_from, get_at, and_then_in, check_at, build_from_at, build_at}
-use Rattle.registry.specs.declared.rows.Definition.{Definition}
+use Rattle.nodes.specs.declared.Definition.{Definition}
 use Rattle.registry.specs.declared.rows.Row.{Row}
 
 -- what stands behind the end of a table

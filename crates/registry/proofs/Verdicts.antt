@@ -29,7 +29,7 @@ use Rattle.messages.specs.declared.Reason.TheVariants.{Reserved}
 use Rattle.message_parts.proofs.Order.{eq_refl}
 use Rattle.answer.specs.Matches.{VerdictMatches}
 use Rattle.registry.specs.Places.{duplicate_of, and_then_in, check_at, build_from_at, build_at}
-use Rattle.registry.specs.declared.rows.Definition.{Definition}
+use Rattle.nodes.specs.declared.Definition.{Definition}
 use Rattle.registry.specs.declared.rows.Row.{Row}
 use Rattle.registry.proofs.Standing.{Indexed, indexed_nil, indexed_cons, indexed_snoc, Finds, finds_nothing, finds, get_finds}
 

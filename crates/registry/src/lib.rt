@@ -14,13 +14,14 @@ ghost use Rattle.registry.specs.Places.{origin, key_of, key_at, rows_from, index
 
 use crate::counts::{Counts, fresh};
 use crate::rows::first_named;
-pub use crate::rows::{Definition, Index, Row};
+pub use crate::rows::{Index, Row};
 use answer::{Answer, answer_tape};
 use buffer::read_value;
 use grammar::code;
 use grammar::codes::DEFINITIONS;
 use grammar::kind::is_text;
 use messages::{Reason, Refused, refuse};
+pub use nodes::Definition;
 use nodes::{name_at, named, read_heading};
 use tape::held::HeldTape;
 use tape::layout::{Place, Tape};

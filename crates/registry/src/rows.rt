@@ -5,7 +5,7 @@ ghost use Rattle.registry.specs.Places.{end_of, index_at, get_at, build_at};
 use crate::{check_name, index_from, key_of};
 use grammar::code;
 use messages::Refused;
-use nodes::{Heading, name_at, read_heading};
+use nodes::{Definition, name_at, read_heading};
 use tape::layout::{Layout, Place, Tape};
 
 // Where a definition stands, and the key of its name.
@@ -21,14 +21,6 @@ impl Row {
         place: Place::START,
         key: 0,
     };
-}
-
-// A definition that a name finds: its heading, the place behind it, where the parameters stand, and the entry where it ends.
-#[derive(Clone, Copy, Debug, PartialEq, Eq)]
-pub struct Definition {
-    pub heading: Heading,
-    pub params: Place,
-    pub end: usize,
 }
 
 // A registry's tape, and the rows of its definitions in their order.

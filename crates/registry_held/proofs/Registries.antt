@@ -32,7 +32,7 @@ use Rattle.tape.proofs.Located.{past_place, accepted_alone}
 use Rattle.tape.proofs.Roots.{registry_root_lem, accepted_root}
 use Rattle.answer.specs.Matches.{answer_with}
 use Rattle.registry.specs.Places.{index_at, get_at}
-use Rattle.registry.specs.declared.rows.Definition.{Definition}
+use Rattle.nodes.specs.declared.Definition.{Definition}
 use Rattle.nodes.specs.declared.Heading.{Heading}
 use Rattle.registry.proofs.Standing.{Defined, Finds, finds_nothing, finds, get_finds, indexed_registry}
 use Rattle.registry_held.specs.Held.{layout_of, Holds, of_tape, of_nothing, Builds, Describes, FoundMatches, found_in, GetMatches}

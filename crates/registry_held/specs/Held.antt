@@ -21,7 +21,7 @@ use Rattle.nodes.specs.Node.{name_at}
 use Rattle.nodes.specs.declared.Heading.{Heading}
 use Rattle.answer.specs.Matches.{answer_with}
 use Rattle.registry.specs.Places.{index_at, get_at}
-use Rattle.registry.specs.declared.rows.Definition.{Definition}
+use Rattle.nodes.specs.declared.Definition.{Definition}
 use Rattle.registry_held.specs.declared.Built.{Built}
 
 -- ------------------------------------------------------------------ what it holds

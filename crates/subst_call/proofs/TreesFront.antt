@@ -189,11 +189,9 @@ module _ (dm : MacroDef) {def : List ℕ} {l : Layout} {p : Place} (h : Inside d
   abbrev pub called : MacroBody → Macro
   called b =
       record {
-        head = def_head;
-        params = params;
+        definition = record { heading = def_head; params = params; end = (past (flat_body b) body_start).at };
         kind = kind_of b;
         body = past (body_head b ∷ []) body_start;
-        end = (past (flat_body b) body_start).at;
       }
 
   -- the body ends where the definition ends

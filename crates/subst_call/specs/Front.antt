@@ -42,7 +42,7 @@ macro_from s l head params end =
     on_place None
     (λ next.
     on_body None
-    (λ kind body. Some (record { head = head; params = params; kind = kind; body = body; end = end }))
+    (λ kind body. Some (record { definition = record { heading = head; params = params; end = end }; kind = kind; body = body }))
     (body_at s l next))
     (past_params_at s l params head.count)
 
@@ -88,9 +88,9 @@ maps_for d c limit file called head =
     record {
       definition = d;
       call = c;
-      params = called.params;
-      count = called.head.count;
-      macro_name = called.head.name;
+      params = called.definition.params;
+      count = called.definition.heading.count;
+      macro_name = called.definition.heading.name;
       call_span = head.span;
       limit = limit;
       file = file;
@@ -105,7 +105,7 @@ table_of call c head first = table_from call c head.count first 0 (replicate 16 
 
 unfoldable pub call_in : List ℕ → Layout → List ℕ → Layout → (limit file : ℕ) → Macro → Heading → Place → ℕ → Writer → List ℕ → Progress
 call_in def d call c limit file called head first charged out bytes =
-    substitute_body_in (tapes def call (table_of call c head first) (maps_for d c limit file called head)) called.kind called.end
+    substitute_body_in (tapes def call (table_of call c head first) (maps_for d c limit file called head)) called.kind called.definition.end
     (state called.body out charged) bytes
 
 -- ------------------------------------------------------------------ the two tapes
@@ -119,8 +119,8 @@ cedar_at head = walk.Refused (refused_at head.span (CedarInCondition head.name))
 
 unfoldable pub counted_in : List ℕ → Layout → List ℕ → Layout → (limit file : ℕ) → Macro → Heading → Place → List ℕ → Progress
 counted_in def d call c limit file called head first bytes =
-    pick (eqb called.head.count head.count) (call_in def d call c limit file called head first 0 (empty_at 0) bytes)
-    (progress (walk.Refused (wrong_count called.head head) 0) bytes)
+    pick (eqb called.definition.heading.count head.count) (call_in def d call c limit file called head first 0 (empty_at 0) bytes)
+    (progress (walk.Refused (wrong_count called.definition.heading head) 0) bytes)
 
 abbrev pub on_kind : Heading → Progress → List ℕ → BodyNode → Progress
 on_kind head X bytes body.Cedar = progress (cedar_at head) bytes

@@ -14,7 +14,7 @@ use grammar::code;
 use grammar::codes::{CONDITION, TERM};
 use message_parts::names::Params;
 use messages::{Reason, Refused, refuse};
-use nodes::{BodyNode, Heading, Refusal, past_params, read_body, read_heading};
+use nodes::{BodyNode, Definition, Heading, Refusal, past_params, read_body, read_heading};
 use subst_state::maps::{Argument, Substitution, find_arguments};
 use subst_walk::{subst_temporal_condition, subst_temporal_term};
 use tape::layout::{Place, Tape};
@@ -22,29 +22,24 @@ use tape::scan::too_deep;
 use tape::text::size;
 use walk_state::writing::Cursor;
 
-// A macro: its definition's head, where its parameters stand, the kind and the place of its body, and the entry behind it.
+// A macro: its definition, and the kind and the place of its body.
 #[derive(Clone, Copy, Debug, PartialEq, Eq)]
 pub struct Macro {
-    pub head: Heading,
-    pub params: Place,
+    pub definition: Definition,
     pub kind: BodyNode,
     pub body: Place,
-    pub end: usize,
 }
 
-// The macro of a definition whose head was read, with the place of its parameters and the entry behind it. Expansion finds both in the
-// registry's index.
-pub fn macro_from(tape: &Tape, head: Heading, params: Place, end: usize) -> Option<Macro>
-    ensures { result ≡ macro_from tape.now.bytes.now tape.now.layout head params end }
+// The macro of a definition that was found: by the registry's index, in an expansion.
+pub fn macro_from(tape: &Tape, definition: Definition) -> Option<Macro>
+    ensures { result ≡ macro_from tape.now.bytes.now tape.now.layout definition.heading definition.params definition.end }
 {
-    let next = past_params(tape, params, head.count)?;
+    let next = past_params(tape, definition.params, definition.heading.count)?;
     let (kind, body) = read_body(tape, next).ok()?;
     Some(Macro {
-        head,
-        params,
+        definition,
         kind,
         body,
-        end,
     })
 }
 
@@ -53,8 +48,16 @@ pub fn macro_from(tape: &Tape, head: Heading, params: Place, end: usize) -> Opti
 fn read_macro(tape: &Tape, p: Place) -> Option<Macro>
     ensures { result ≡ macro_at tape.now.bytes.now tape.now.layout p }
 {
-    let (head, params) = read_heading(tape, p, code::DEFINITION).ok()?;
-    macro_from(tape, head, params, tape.layout.entries)
+    let (heading, params) = read_heading(tape, p, code::DEFINITION).ok()?;
+    let end = tape.layout.entries;
+    macro_from(
+        tape,
+        Definition {
+            heading,
+            params,
+            end,
+        },
+    )
 }
 
 // 34 has the definition's name and the call's span.
@@ -142,6 +145,7 @@ pub fn substitute_call<'a>(
 ) -> Result<(), Refused>
     ensures { Walks c.old c.new result (call_in definition.now.bytes.now definition.now.layout call.now.bytes.now call.now.layout limit file called head first c.old.charged c.old.out c.old.bytes.now) }
 {
+    let found = called.definition;
     let mut args = [Argument::NONE; 16];
     find_arguments(call, first, head.count, &mut args);
     let s = Substitution {
@@ -149,16 +153,16 @@ pub fn substitute_call<'a>(
         call: *call,
         args: &args,
         params: Params {
-            place: called.params,
-            count: called.head.count,
+            place: found.params,
+            count: found.heading.count,
         },
-        macro_name: called.head.name,
+        macro_name: found.heading.name,
         call_span: head.span,
         limit,
         file,
     };
     c.place = called.body;
-    substitute_body(&s, c, called.kind, called.end)
+    substitute_body(&s, c, called.kind, found.end)
 }
 
 // Cedar is 31, another number of arguments 34; then the call, whose outcome is written to the area at the start of the slice.
@@ -179,8 +183,9 @@ pub fn substitute_tapes<'a>(
     if matches!(called.kind, BodyNode::Cedar) {
         return Err(refuse(head.span, Reason::CedarInCondition(head.name)));
     }
-    if called.head.count != head.count {
-        return Err(wrong_count(called.head, head));
+    let heading = called.definition.heading;
+    if heading.count != head.count {
+        return Err(wrong_count(heading, head));
     }
     substitute_call(definition, call, limit, file, called, head, first, c)
 }
