@@ -71,7 +71,8 @@ pub fn older(bytes: &[u8], res: &mut [u8]) -> Answer
     match accept(bytes, root_sort(first_code(bytes))) {
         Ok(layout) => {
             let tape = Tape { bytes, layout };
-            if none_on(&tape) {
+            let plain = none_on(&tape);
+            if plain {
                 older_in(&tape, res)
             } else {
                 older_rewritten(&tape, res)

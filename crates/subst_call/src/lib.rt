@@ -177,7 +177,7 @@ pub fn substitute_tapes<'a>(
     ensures { Walks c.old c.new result (tapes_in definition.now.bytes.now definition.now.layout call.now.bytes.now call.now.layout limit file c.old.bytes.now) }
 {
     c.restart();
-    let origin = Place { at: 0, text: 0 };
+    let origin = Place::START;
     let called = read_macro(definition, origin).ok_or(Refusal::MALFORMED)?;
     let (head, first) = read_heading(call, origin, code::CALLED)?;
     if matches!(called.kind, BodyNode::Cedar) {
