@@ -108,7 +108,7 @@ fn measure(tape: &Tape, p: Place) -> Option<Argument>
 
 // The table of a call's arguments: they are found and measured once, and not at every paste. `first` is the place of the first, and
 // the table has room for as many as it has. The table is written by an index: of what `iter_mut` behind `take` writes a proof learns
-// nothing.
+// nothing, and with `iter_mut` over the front of the table, whose items are a part of what the definition writes, it does not close.
 #[tactic(auto, using(crate::proofs::Steps::table_done, crate::proofs::Steps::table_full, crate::proofs::Steps::table_none, crate::proofs::Steps::table_more))]
 pub fn find_arguments(tape: &Tape, first: Place, count: u64, args: &mut [Argument])
     ensures { args.new ≡ table_from tape.now.bytes.now tape.now.layout count first 0 args.old }
