@@ -2,8 +2,6 @@
 ghost use Rattle.std.specs.Prelude.{◌≡◌, get_or};
 ghost use Rattle.walk_state.specs.Writing.{Walks, going_at, came_to};
 ghost use Rattle.expand_calls.specs.Output.{copy_own_after_in, shape_in, refold_in};
-ghost use Rattle.tape.specs.Scan.{skip_at};
-ghost use Rattle.walk_state.specs.Reading.{passed_in};
 
 use grammar::code;
 use grammar::codes::FIELDS;
@@ -13,7 +11,7 @@ use registry::Index;
 use subst_places::refine::fold_refine;
 use subst_state::run::copy_to;
 use tape::layout::{Place, Tape};
-use tape::scan::skip;
+pub use walk_state::reading::past_all;
 use walk_state::writing::Cursor;
 
 // The registry with the rows of its definitions, the condition's tape, the budget's limit, and the file number. The cursor and the result
@@ -24,14 +22,6 @@ pub struct Expansion<'a, 'b> {
     pub condition: Tape<'a>,
     pub limit: u32,
     pub file: u16,
-}
-
-// The place behind all that stands at one.
-#[tactic(auto, unfolding(walk_state::specs::Reading::passed_in, walk_state::specs::Reading::refused_in, nodes::specs::Node::span_of))]
-pub fn past_all(cond: &Tape, p: Place, sort: u64) -> Result<Place, Refused>
-    ensures { result ≡ passed_in (skip_at cond.now.bytes.now cond.now.layout p sort) }
-{
-    Ok(skip(cond, p, sort).ok_or(Refusal::MALFORMED)?)
 }
 
 // Appends the condition's own entries up to the place where a check came, behind a walk. A refusal of the check comes before one of the
