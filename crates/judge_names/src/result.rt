@@ -35,7 +35,7 @@ fn equal_on(protected: &Protected, supplied: &Tape, res: &[u8]) -> bool
 }
 
 // The same with the rewritten tapes, for which there is room here: most tapes have no Or (`profile_rewritten` says why each operation
-// has such a function).
+// has such a function), 12,296 bytes each, which is the result's length in `answer`: this crate stands below it.
 fn equal_rewritten(protected: &Protected, supplied: &Tape, res: &[u8]) -> bool
     ensures { result ≡ equal_on (rewritten_in protected.now.registry.bytes.now protected.now.registry.layout (replicate 12296 0)) (rewritten_layout protected.now.registry.bytes.now protected.now.registry.layout) (rewritten_in protected.now.condition.bytes.now protected.now.condition.layout (replicate 12296 0)) (rewritten_layout protected.now.condition.bytes.now protected.now.condition.layout) (rewritten_in supplied.now.bytes.now supplied.now.layout (replicate 12296 0)) (rewritten_layout supplied.now.bytes.now supplied.now.layout) res.now }
 {

@@ -10,7 +10,7 @@ ghost use Rattle.merge.specs.Ends.{AnswersMerging, EndsMerge};
 
 use crate::join::{Refusing, merge_named};
 use answer::tapes::accept_two;
-use answer::{Answer, long_without_work, number_alone, refuse, refuse_without_work};
+use answer::{Answer, RESULT_SIZE, long_without_work, number_alone, refuse, refuse_without_work};
 use area::{Writer, finish};
 use de_morgan::{rewritten_in, without_or};
 use grammar::codes::DEFINITIONS;
@@ -55,8 +55,8 @@ fn merge_in(first: &Tape, second: &Tape, res: &mut [u8], message: &mut [u8]) -> 
 fn merge_rewritten(first: &Tape, second: &Tape, res: &mut [u8], message: &mut [u8]) -> Answer
     ensures { EndsMerge (rewritten_in first.now.bytes.now first.now.layout (replicate 12296 0)) (rewritten_layout first.now.bytes.now first.now.layout) (rewritten_in second.now.bytes.now second.now.layout (replicate 12296 0)) (rewritten_layout second.now.bytes.now second.now.layout) (length res.old) (length message.old) (answer_with result res.new [] message.new) }
 {
-    let mut one = [0u8; 12296];
-    let mut other = [0u8; 12296];
+    let mut one = [0u8; RESULT_SIZE];
+    let mut other = [0u8; RESULT_SIZE];
     let first = rewritten_in(first, &mut one);
     let second = rewritten_in(second, &mut other);
     merge_in(&first, &second, res, message)

@@ -13,7 +13,7 @@ ghost use Rattle.profile.specs.Spans.{spans_in};
 
 use crate::around::{Around, Head, nearest, pass_entry};
 use crate::rules::{Rule, broken_by, counted};
-use answer::Answer;
+use answer::{Answer, RESULT_SIZE};
 use arrayvec::ArrayVec;
 use de_morgan::{none_on, rewritten_in};
 use grammar::codes::CONDITION;
@@ -110,7 +110,7 @@ fn profile_in(tape: &Tape) -> Answer
 fn profile_rewritten(tape: &Tape) -> Answer
     ensures { answer_with result [] [] [] ≡ profiled (profile_in (rewritten_in tape.now.bytes.now tape.now.layout (replicate 12296 0)) (rewritten_layout tape.now.bytes.now tape.now.layout)) }
 {
-    profile_in(&rewritten_in(tape, &mut [0u8; 12296]))
+    profile_in(&rewritten_in(tape, &mut [0u8; RESULT_SIZE]))
 }
 
 // The operation. It has no buffers. Names of a variable or a binder may have 81 bytes here, as generated ones do.
