@@ -165,8 +165,9 @@ fn brought(c: Cell, e: Head, longest: Option<NonZeroU64>) -> Option<Cell>
 }
 
 // Takes an entry that the cell on top, `c`, waited for first: its sort is no more to come, and what follows it comes next. Most entries
-// bring nothing.
+// bring nothing. It is a part of the scan's loop, which knows whether `longest` is there.
 #[tactic(auto, using(crate::proofs::Cells::pushed), unfolding(crate::specs::Words::follows_of))]
+#[inline(always)]
 pub fn advance<const N: usize>(
     stack: &mut ArrayVec<Cell, N>,
     c: Cell,

@@ -1,5 +1,5 @@
 // A scan over the entries of a sort: whether they are such entries, where they end, and whether they pass a largest figure.
-ghost use Rattle.std.specs.Prelude.{◌≡◌, ◌+◌, ◌*◌, ◌≤◌, ◌<◌, ◌&&◌, leb, ltb, length};
+ghost use Rattle.std.specs.Prelude.{◌≡◌, ◌+◌, ◌*◌, ◌≤◌, ◌<◌, ◌&&◌, leb, ltb, length, Some};
 ghost use Rattle.format.specs.Stands.{part};
 ghost use Rattle.arrayvec.specs.ArrayVec.{array_vec_len};
 ghost use Rattle.grammar.specs.Waits.{longest_in};
@@ -54,6 +54,7 @@ fn text_passes(tape: &Tape, text: usize, len: usize, longest: Option<NonZeroU64>
 // Takes the entry at a place, for which `cell`, the top of the stack, waits first: takes that sort off, and puts there what the entry
 // brings.
 #[tactic(auto, using(crate::proofs::Turns::let_in))]
+#[inline(always)]
 fn take_entry<const N: usize>(
     stack: &mut ArrayVec<Cell, N>,
     grammar: Grammar,
@@ -79,11 +80,10 @@ fn take_entry<const N: usize>(
     Some((text + e.text as usize, over))
 }
 
-// The scan with a stack of N cells. An entry brings one cell more at the most, so it has a cell more than the tape has entries. It is a
-// function by itself, since as a part of its caller it has fewer registers (1 in 100 instructions of an expansion more); and table, tape
-// and `longest` are no struct with methods, with which a scan took 5 to 8 in 100 more.
+// The scan with a stack of N cells. An entry brings one cell more at the most, so it has a cell more than the tape has entries. Table, tape
+// and `longest` are no struct with methods, with which a scan took 5 to 8 in 100 instructions more.
 #[tactic(auto, using(crate::proofs::Turns::went_on, crate::proofs::Turns::stopped, crate::proofs::Turns::run_out, crate::proofs::Turns::ended, crate::proofs::Turns::first_waits))]
-#[inline(never)]
+#[inline(always)]
 fn scan_with<const N: usize>(
     grammar: Grammar,
     tape: &Tape,
@@ -113,6 +113,7 @@ fn scan_with<const N: usize>(
 }
 
 // The stack is cleared before each scan, so it is a short one where that is enough.
+#[inline(always)]
 fn scan_held(
     grammar: Grammar,
     tape: &Tape,
@@ -130,6 +131,30 @@ fn scan_held(
     } else {
         scan_with::<1025>(grammar, tape, from, sort, longest)
     }
+}
+
+// The scan of a result, and that of an input: each is a function by itself, and the loop with all of its turn a part of it, so that the
+// compiler leaves out of the one what an input alone is asked. As one they take 7 in 100 instructions more.
+#[inline(never)]
+fn scan_result(grammar: Grammar, tape: &Tape, from: Place, sort: u64) -> Option<(Place, bool)>
+    requires { Starts tape.now.bytes.now tape.now.layout from sort }
+    ensures { result ≡ scan_from (rules grammar.entry) tape.now.bytes.now tape.now.layout from sort 0 }
+{
+    scan_held(grammar, tape, from, sort, None)
+}
+
+#[inline(never)]
+fn scan_input(
+    grammar: Grammar,
+    tape: &Tape,
+    from: Place,
+    sort: u64,
+    names: NonZeroU64,
+) -> Option<(Place, bool)>
+    requires { Starts tape.now.bytes.now tape.now.layout from sort }
+    ensures { result ≡ scan_from (rules grammar.entry) tape.now.bytes.now tape.now.layout from sort (longest_in (Some names)) }
+{
+    scan_held(grammar, tape, from, sort, Some(names))
 }
 
 // Whether a place is in a layout, and a table has room for the sort.
@@ -158,7 +183,10 @@ pub fn scan(
     ensures { result ≡ scan_at (rules grammar.entry) tape.now.bytes.now tape.now.layout from sort (longest_in longest) }
 {
     if starts(tape, from, sort) {
-        scan_held(grammar, tape, from, sort, longest)
+        match longest {
+            Some(names) => scan_input(grammar, tape, from, sort, names),
+            None => scan_result(grammar, tape, from, sort),
+        }
     } else {
         None
     }
