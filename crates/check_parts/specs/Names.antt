@@ -7,7 +7,7 @@ use Rattle.std.specs.Prelude.{ℕ, List, Result, Ok, Err}
 use Rattle.format.specs.Entry.{Text}
 use Rattle.definition.specs.Check.{contains}
 use Rattle.tape.specs.Pick.{pick}
-use Rattle.nodes.specs.Node.{on_value, expect_at, past_type_at, slot_at, within_at, name_at}
+use Rattle.nodes.specs.Node.{on_value, expect_at, slot_at, within_at, name_at}
 use Rattle.tape.specs.declared.layout.Layout.{Layout}
 use Rattle.tape.specs.declared.layout.Place.{Place}
 use Rattle.nodes.specs.declared.Name.{Name}
@@ -20,7 +20,7 @@ use Rattle.nodes.specs.declared.WithinNode.TheVariants as within
 use Rattle.message_parts.specs.Names.{names_at}
 use Rattle.message_parts.specs.declared.names.Params.{Params}
 use Rattle.messages.specs.declared.Reason.TheVariants.{Undeclared, PlainIdentifier}
-use Rattle.walk_state.specs.Reading.{after, items_in, refused_in, without_message_of, malformed_in, passed_in}
+use Rattle.walk_state.specs.Reading.{after, items_in, refused_in, without_message_of, malformed_in, past_type_in}
 use Rattle.check_parts.specs.declared.Declared.{Declared}
 
 -- How a definition's tape is laid out, and its parameters: what the code's `Declared` has beside the slice.
@@ -78,7 +78,7 @@ module _ (s : List ℕ) (d : Declaration) where
 
   -- a slot and its type
   unfoldable pub binder_in : ℕ → Result Place Refused → Result Place Refused
-  binder_in span w = after (λ p. passed_in (past_type_at s d.layout p)) (slot_in span w)
+  binder_in span w = past_type_in s d.layout (slot_in span w)
 
   -- a list of them
   unfoldable pub binders_in : ℕ → Result Place Refused → Result Place Refused

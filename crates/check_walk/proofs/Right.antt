@@ -34,7 +34,7 @@ use Rattle.definition.specs.Check.{
   check_temporal_agg_body,
 }
 use Rattle.tape.specs.Pick.{pick}
-use Rattle.nodes.specs.Node.{span_of, name_at, condition_at, term_at, agg_at, past_type_at}
+use Rattle.nodes.specs.Node.{span_of, name_at, condition_at, term_at, agg_at}
 use Rattle.tape.specs.Scan.{skip_at}
 use Rattle.tape.specs.declared.layout.Layout.{Layout}
 use Rattle.tape.specs.declared.layout.Place.{Place}
@@ -61,7 +61,7 @@ use Rattle.messages.specs.declared.Reason.{Reason}
 use Rattle.messages.specs.declared.Reason.TheVariants.{Undeclared, PlainIdentifier, MacroInMacro}
 use Rattle.messages.specs.declared.Refused.{Refused}
 use Rattle.answer.specs.Matches.{RefusalMatches}
-use Rattle.walk_state.specs.Reading.{after, and_then_in, items_in, refused_in, passed_in, behind_in, past_name_in}
+use Rattle.walk_state.specs.Reading.{after, and_then_in, items_in, refused_in, passed_in, behind_in, past_type_in, past_name_in}
 use Rattle.check_parts.specs.Names.{Declaration, plain_in, declared_in, param_in, sigil_in, within_in, slot_in, binder_in, binders_in}
 use Rattle.check_walk.specs.Walk.{
   Walkers,
@@ -180,7 +180,7 @@ module _ (s : List ℕ) (d : Declaration) (names : List Text) (declared : declar
       (check_binder_slot names b.slot span)
   unfolding binder_in passed_in
   binder_right b span h k =
-      goes_on (after (λ q. passed_in (past_type_at s d.layout q))) (λ r. refl) (slot_right b.slot span h) (rw (past_type b.ty k))
+      goes_on (past_type_in s d.layout) (λ r. refl) (slot_right b.slot span h) (rw (past_type b.ty k))
 
   each_binder : (bs : List TypedBinder) (span : ℕ) {p : Place} → Inside s d.layout p (flat_binders bs)
       → Finds s d.layout (items_in (binder_in s d span) (length bs) (Ok p)) (past (flat_binders bs) p) (check_binders names bs span)

@@ -44,12 +44,11 @@ use Rattle.messages.specs.declared.Reason.{Reason}
 use Rattle.messages.specs.declared.Reason.TheVariants.{StrayWithin, StraySlot, StrayField}
 use Rattle.messages.specs.declared.Refused.{Refused}
 use Rattle.answer.specs.Matches.{RefusalMatches}
-use Rattle.walk_state.specs.Reading.{items_in, refused_in, passed_in, past_name_in}
+use Rattle.walk_state.specs.Reading.{items_in, refused_in, passed_in, past_type_in, past_name_in}
 use Rattle.walk_state.proofs.Steps.{Strict, strict_items}
 use Rattle.expand_stray.specs.Concrete.{
   concrete_within_in,
   concrete_slot_in,
-  type_in,
   concrete_binder_in,
   concrete_binders_in,
   concrete_node_in,
@@ -121,7 +120,7 @@ module _ {s : List ℕ} {d : Layout} {t : List ℕ} {c : Layout} where
       → StrayMatches s d t c k (concrete_binder_in t c span (Ok p)) (past (flat_type b.ty) (past (flat_slot b.slot ∷ []) p))
       (check_concrete_slot b.slot span k)
   unfolding concrete_binder_in passed_in
-  binder_concrete b span k h q = goes_on (type_in t c) (λ r. refl) (slot_concrete b.slot span k h) (rw (past_type b.ty q))
+  binder_concrete b span k h q = goes_on (past_type_in t c) (λ r. refl) (slot_concrete b.slot span k h) (rw (past_type b.ty q))
 
   each_binder : (bs : List TypedBinder) (span k : ℕ) {p : Place} → Inside t c p (flat_binders bs)
       → StrayMatches s d t c k (items_in (concrete_binder_in t c span) (length bs) (Ok p)) (past (flat_binders bs) p) (check_concrete_binders bs span k)

@@ -5,7 +5,7 @@ use Rattle.nodes.specs.declared.Refusal.{Refusal}
 use Rattle.messages.specs.declared.Refused.{Refused}
 use Rattle.std.specs.Prelude.{ℕ, zero, suc, List, Result, Ok, Err}
 use Rattle.grammar.specs.Grammar as grammar
-use Rattle.nodes.specs.Node.{on_value, expect_at, past_type_at, slot_at, within_at, term_at}
+use Rattle.nodes.specs.Node.{on_value, expect_at, slot_at, within_at, term_at}
 use Rattle.tape.specs.Scan.{skip_at}
 use Rattle.tape.specs.declared.layout.Layout.{Layout}
 use Rattle.tape.specs.declared.layout.Place.{Place}
@@ -17,7 +17,7 @@ use Rattle.nodes.specs.declared.WithinNode.TheVariants as within
 use Rattle.nodes.specs.declared.TermNode.{TermNode}
 use Rattle.nodes.specs.declared.TermNode.TheVariants as term
 use Rattle.messages.specs.declared.Reason.TheVariants.{StrayWithin, StraySlot, StrayField}
-use Rattle.walk_state.specs.Reading.{after, items_in, refused_in, without_message_of, malformed_in, too_deep_in, passed_in, past_name_in}
+use Rattle.walk_state.specs.Reading.{after, items_in, refused_in, without_message_of, malformed_in, too_deep_in, passed_in, past_type_in, past_name_in}
 
 -- ------------------------------------------------------------------ withins and slots, once they are read
 
@@ -47,13 +47,9 @@ module _ (s : List ℕ) (l : Layout) where
   unfoldable pub concrete_slot_in : ℕ → Result Place Refused → Result Place Refused
   concrete_slot_in span = after λ p. on_concrete_slot_read span (slot_at s l p)
 
-  -- past a type
-  abbrev pub type_in : Result Place Refused → Result Place Refused
-  type_in = after λ p. passed_in (past_type_at s l p)
-
   -- a slot and its type
   unfoldable pub concrete_binder_in : ℕ → Result Place Refused → Result Place Refused
-  concrete_binder_in span w = type_in (concrete_slot_in span w)
+  concrete_binder_in span w = past_type_in s l (concrete_slot_in span w)
 
   -- a list of them
   unfoldable pub concrete_binders_in : ℕ → Result Place Refused → Result Place Refused

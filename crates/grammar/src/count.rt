@@ -131,8 +131,8 @@ pub fn has_pairs(sort: u64) -> bool
 }
 
 // What an entry does to a count, with `left` entries behind it and `room` bytes of text left: it may not stand there, or it brings so many
-// subtrees and bytes of text, and the items of the next list are two subtrees each or not. `pairs` is no enum, since nobody chooses by it:
-// it is a part of the count, carried from entry to entry.
+// subtrees and bytes of text, and the items of the next list are two subtrees each or not. `pairs` is no enum, since no caller chooses
+// by it: it is a part of the count, carried from entry to entry.
 pub fn step(
     counts: &[u8],
     left: usize,

@@ -152,8 +152,8 @@ fn raised(n: u8, more: u8, most: u8) -> u8
     (u16::from(n) + u16::from(more)).min(u16::from(most)) as u8
 }
 
-// The cell of what follows an entry that a cell waited for. `longest` is as in `exceeds`. That what follows is no more than a cell counts is
-// asked here and below, and is no part of a `Head`: any head may be asked whether it `accepts`, which says it.
+// The cell of what follows an entry that a cell waited for. `longest` is as in `exceeds`. That what follows is no more than a cell counts
+// is asked here and below, and is no part of a `Head`: any head may be asked whether it `accepts`, which says it.
 fn brought(c: Cell, e: Head, longest: Option<NonZeroU64>) -> Option<Cell>
     requires { counted (follows_of e.follows) e.value ≤ 65536 }
     ensures { waits_by result ≡ below (longest_in longest) (wait_of c) e }

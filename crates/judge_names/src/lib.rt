@@ -144,8 +144,8 @@ impl<'a> Pair<'a> {
 }
 
 impl<'a> Sides<'a> {
-    // The texts of entry `at`, which begin at `a` and at `b`. The three are no struct, here and in the two functions that have them too: the
-    // index is a range's and the texts go on by themselves, so that it would be put together anew at each turn of the two loops.
+    // The texts of entry `at`, which begin at `a` and at `b`. The three are no struct, here and in the two functions that have them too:
+    // the index is a range's and the texts go on by themselves, so that it would be put together anew at each turn of the two loops.
     fn pair_at(&self, at: usize, a: usize, b: usize) -> Pair<'a>
         requires { at < self.now.left.tape.layout.entries }
         ensures ours { result.ours.now ≡ spelled_at self.now.left.tape.bytes.now self.now.left.tape.layout at a }

@@ -61,7 +61,8 @@ fn write_first(tape: &Tape, c: &mut Cursor)
     ensures { Moves c.old c.new (going origin 0 (first_in tape.now.bytes.now tape.now.layout c.old.bytes.now)) }
 {
     c.restart();
-    // one tape: `copy` takes two, since document 01 names the form (`part` in `subst_state/src/run.rt`)
+    // One tape, twice: `copy` takes two, since document 01 names the form (`part` in `subst_state/src/run.rt`). It is not `copy_to`,
+    // which would leave the place behind them: it stays at the front, where `join` reads how many the second has.
     if let Some(end) = skip(tape, c.place, DEFINITIONS) {
         copy(tape, tape, true, c.place, end, c);
     }

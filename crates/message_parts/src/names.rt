@@ -18,8 +18,8 @@ pub struct Params {
     pub count: u64,
 }
 
-// A match, here and in `is_below`: with `is_none_or`, whose clause is a match of the option itself, the goal stays open (tried, with a lemma
-// for the two cases too).
+// A match, here and in `is_below`: with `is_none_or`, whose clause is a match of the option itself, the goal stays open (tried, with a
+// lemma for the two cases too).
 #[tactic(auto, using(crate::proofs::Less::less_texts))]
 fn is_above(tape: &Tape, floor: Option<Name>, name: Name) -> bool
     ensures { result ≡ above (spelled tape.now.bytes.now tape.now.layout floor) (name_at tape.now.bytes.now tape.now.layout name) }

@@ -19,8 +19,8 @@ pub fn accept(s: &[u8], sort: u64) -> Result<Layout, Fault>
     accept_named(64, s, sort)
 }
 
-// The same with the longest text of a name. At 0 no figure of an input is asked for, here and below: the definition has a number too, so that
-// nothing is asked of a caller.
+// The same with the longest text of a name. At 0 no figure of an input is asked for, here and below: the definition has a number too, so
+// that nothing is asked of a caller.
 pub fn accept_named(longest: u64, s: &[u8], sort: u64) -> Result<Layout, Fault>
     ensures { result ≡ accept_named longest s.now sort }
 {

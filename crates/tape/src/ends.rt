@@ -7,7 +7,7 @@ use crate::layout::Place;
 use grammar::count::step;
 
 // The place behind `due` subtrees from a place on, by a table of counts; `pairs` is whether the items of the next list are two subtrees
-// each, which is no enum, since nobody chooses by it: it is a part of the count, carried from entry to entry.
+// each, which is no enum, since no caller chooses by it: it is a part of the count, carried from entry to entry.
 #[tactic(auto, using(crate::proofs::Skipping::count_done, crate::proofs::Skipping::count_step))]
 pub fn end_of(counts: &[u8], held: &HeldTape, from: Place, due: u64, pairs: bool) -> Option<Place>
     requires { (from.at ≤ held.now.tape.layout.entries) × (from.text ≤ held.now.tape.layout.size) × (due ≤ 2) }

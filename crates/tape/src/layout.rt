@@ -78,8 +78,8 @@ pub fn of_tape(entries: usize, size: usize) -> Layout
     }
 }
 
-// The work area at `base`: 1,024 codes, 8,192 bytes of values, then the text. A base past every buffer holds nothing: its layout is empty and
-// no None, as the definition has it, so that nothing is asked of a caller.
+// The work area at `base`: 1,024 codes, 8,192 bytes of values, then the text. A base past every buffer holds nothing: its layout is empty
+// and no None, as the definition has it, so that nothing is asked of a caller.
 pub fn of_area(base: usize, entries: usize, size: usize) -> Layout
     ensures { result ≡ area_layout base entries size }
 {

@@ -53,6 +53,10 @@ unfoldable pub behind_in : List ℕ → Layout → Place → Result Place Refuse
 behind_in s l left (Ok p) = Ok p
 behind_in s l left (Err r) = passed_in (skip_at s l left grammar.condition)
 
+-- past the type behind a slot
+abbrev pub past_type_in : List ℕ → Layout → Result Place Refused → Result Place Refused
+past_type_in s l = after λ p. passed_in (past_type_at s l p)
+
 -- past a field's name
 unfoldable pub past_name_in : List ℕ → Layout → Result Place Refused → Result Place Refused
 past_name_in s l = after λ p. on_value malformed_in (λ size next. Ok next) (expect_at s l p 40)
@@ -69,4 +73,4 @@ Along s l P p r =
 
 -- the way past the type behind a slot, where a call has found x
 abbrev pub Binds : List ℕ → Layout → (Place → Result Place Refused → Type 0) → Place → Result Place Refused → Type 0
-Binds s l P p r = (x : Result Place Refused) × (P p x) × (r ≡ after (λ q. passed_in (past_type_at s l q)) x)
+Binds s l P p r = (x : Result Place Refused) × (P p x) × (r ≡ past_type_in s l x)
