@@ -32,7 +32,7 @@ use walk_state::writing::Cursor;
 
 // The Rust's `expand_temporal_condition`.
 #[cycle(walk)]
-#[tactic(auto, using(crate::proofs::Walking::down_condition), unfolding(nodes::specs::Node::span_of))]
+#[tactic(auto, using(crate::proofs::Walking::down_condition), unfolding(crate::specs::Walkers::walkers, nodes::specs::Node::span_of))]
 pub fn expand_condition(
     nesting: usize,
     x: &Expansion,
@@ -204,7 +204,7 @@ fn refine(
 
 // The Rust's `expand_temporal_agg`: the aggregate behind a 30, which stands at `p`. A call takes the whole term's place.
 #[cycle(walk)]
-#[tactic(auto, using(crate::proofs::Walking::down_agg), unfolding(crate::specs::Walkers::agg_node_in, nodes::specs::Node::agg_at, nodes::specs::Node::span_of, nodes::specs::Node::refusal_of))]
+#[tactic(auto, using(crate::proofs::Walking::down_agg), unfolding(crate::specs::Walkers::walkers, crate::specs::Walkers::agg_node_in, nodes::specs::Node::agg_at, nodes::specs::Node::span_of, nodes::specs::Node::refusal_of))]
 fn expand_agg(
     nesting: usize,
     x: &Expansion,
@@ -240,7 +240,7 @@ fn check_sum(cond: &Tape, span: u64, p: Place) -> Result<Place, Refused>
 
 // The Rust's `expand_temporal_operand`.
 #[cycle(walk)]
-#[tactic(auto, using(crate::proofs::Walking::down_operand), unfolding(nodes::specs::Node::span_of))]
+#[tactic(auto, using(crate::proofs::Walking::down_operand), unfolding(crate::specs::Walkers::walkers, nodes::specs::Node::span_of))]
 fn expand_operand(
     nesting: usize,
     x: &Expansion,
@@ -399,7 +399,7 @@ fn cond_arg(
 
 // The bare call at a place, as a term.
 #[cycle(walk)]
-#[tactic(auto, using(crate::proofs::Walking::down_value), unfolding(crate::specs::Walkers::value_arg_in, nodes::specs::Node::span_of, nodes::specs::Node::refusal_of))]
+#[tactic(auto, using(crate::proofs::Walking::down_value), unfolding(crate::specs::Walkers::walkers, crate::specs::Walkers::value_arg_in, nodes::specs::Node::span_of, nodes::specs::Node::refusal_of))]
 fn value_arg(
     nesting: usize,
     x: &Expansion,

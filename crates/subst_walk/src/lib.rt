@@ -21,7 +21,7 @@ use subst_state::maps::Substitution;
 use tape::layout::Place;
 use walk_state::writing::Cursor;
 
-#[tactic(auto, using(crate::proofs::Walking::one_down_condition))]
+#[tactic(auto, using(crate::proofs::Walking::one_down_condition), unfolding(crate::specs::Walkers::walkers, nodes::specs::Node::span_of))]
 #[cycle(walk)]
 pub fn subst_temporal_condition(
     nesting: usize,
@@ -230,7 +230,7 @@ fn inject(
     fold_refine(c, base, count, own, shape)
 }
 
-#[tactic(auto, using(crate::proofs::Walking::one_down_agg), unfolding(crate::specs::Walkers::on_agg, nodes::specs::Node::agg_at, nodes::specs::Node::span_of, nodes::specs::Node::refusal_of))]
+#[tactic(auto, using(crate::proofs::Walking::one_down_agg), unfolding(crate::specs::Walkers::walkers, crate::specs::Walkers::on_agg, nodes::specs::Node::agg_at, nodes::specs::Node::span_of, nodes::specs::Node::refusal_of))]
 #[cycle(walk)]
 fn subst_temporal_agg(nesting: usize, s: &Substitution, c: &mut Cursor) -> Result<(), Refused>
     ensures { Walks c.old c.new result ((walkers (tapes_of s.now) nesting).agg (going_at c.old)) }
@@ -267,7 +267,7 @@ fn agg(
     }
 }
 
-#[tactic(auto, using(crate::proofs::Walking::one_down_term))]
+#[tactic(auto, using(crate::proofs::Walking::one_down_term), unfolding(crate::specs::Walkers::walkers, nodes::specs::Node::span_of))]
 #[cycle(walk)]
 pub fn subst_temporal_term(
     nesting: usize,

@@ -1,25 +1,8 @@
--- The cycle of the walkers: where no level is left, and where no condition or term is read, which the check does not join by itself.
-use Rattle.std.proofs.Common.{rules, arith, ◌≡◌}
-use Rattle.nodes.specs.Node.{span_of}
+-- The cycle of the walkers: where no condition or term is read, which the check does not join by itself.
+use Rattle.std.proofs.Common.{rules, arith}
 use Rattle.subst_places.specs.Parameters.{tapes_of}
-use Rattle.subst_walk.specs.Walkers.{walkers}
 use Rattle.subst_walk.proofs.Walking.{unread_condition, unread_term}
 use Rattle.subst_walk.proofs.+walk.Goals as goal
-
-pub subst_temporal_condition-returns-in_err-n : goal.subst_temporal_condition-returns-in_err-n
-unfolding walkers span_of
-subst_temporal_condition-returns-in_err-n t c =
-    let none : c.args.nesting ≡ 0 = omega (arith, rw c.in_err-n.ensures.ok_part at c.checked_sub.ensures) in rw none (search rules)
-
-pub subst_temporal_agg-returns-in_err-n : goal.subst_temporal_agg-returns-in_err-n
-unfolding walkers span_of
-subst_temporal_agg-returns-in_err-n t c =
-    let none : c.args.nesting ≡ 0 = omega (arith, rw c.in_err-n.ensures.ok_part at c.checked_sub.ensures) in rw none (search rules)
-
-pub subst_temporal_term-returns-in_err-n : goal.subst_temporal_term-returns-in_err-n
-unfolding walkers span_of
-subst_temporal_term-returns-in_err-n t c =
-    let none : c.args.nesting ≡ 0 = omega (arith, rw c.in_err-n.ensures.ok_part at c.checked_sub.ensures) in rw none (search rules)
 
 pub subst_temporal_condition-returns-in_err-node : goal.subst_temporal_condition-returns-in_err-node
 subst_temporal_condition-returns-in_err-node t c =
