@@ -110,6 +110,7 @@ pub fn read_value(s: &[u8], at: usize) -> u64
     if 8 <= s.len() - at {
         return held_value(s, at);
     }
+    // no `from_le_bytes`: fewer than 8 bytes stand there, and each that is missing counts 0
     let low = read_size(s, at) as u64;
     let high = read_size(s, at + 4) as u64;
     low + 4294967296 * high
@@ -170,7 +171,8 @@ fn end_of(size: usize, at: usize, count: usize) -> usize
     at.saturating_add(count).min(size)
 }
 
-// Writes `piece` behind a message that ends at `at`, as far as the buffer reaches, and answers where it then ends.
+// Writes `piece` behind a message that ends at `at`, as far as the buffer reaches, and answers where it then ends. It and `write_number`
+// take the slice: they are what `Message` is made of, whose methods lend its own.
 #[tactic(auto, unfolding(crate::specs::Buffer::write_in))]
 pub fn write_at(message: &mut [u8], at: usize, piece: &[u8]) -> usize
     ensures { message_in message.new result ≡ write_in piece.now (message_in message.old at) }

@@ -1,4 +1,6 @@
-// The codes of the entries of a tape, by name. What follows each is in the table of `codes`.
+// The codes of the entries of a tape, by name. What follows each is in the table of `codes`. They are numbers and no enum: any byte may
+// stand on a tape, tables are read by it, a provider's codes are others of the same bytes, and an enum would be made of a byte, which may
+// fail, at each read and turned back at each write.
 
 // Conditions: a span.
 pub const AND: u8 = 1;

@@ -28,7 +28,8 @@ pub struct Protected<'a> {
     pub condition: Tape<'a>,
 }
 
-// The same, each of which holds its layout.
+// The same, each of which holds its layout. No type parameter over the two: it would ask for a trait, for one function that makes this of
+// that.
 #[derive(Clone, Copy, Debug)]
 struct HeldProtected<'a> {
     registry: HeldTape<'a>,
@@ -66,7 +67,8 @@ fn width_at(held: &HeldTape, at: usize) -> u64
     text_width(held.code_at(at), held.value_at(at))
 }
 
-// The text offset behind entry `at`, whose text begins at `text`, as far as there is text.
+// The text offset behind entry `at`, whose text begins at `text`, as far as there is text. The two are no `Place` here and below: the index
+// is a range's, and the texts go on by themselves.
 fn behind(held: &HeldTape, at: usize, text: usize) -> usize
     requires { (at < held.now.tape.layout.entries) × (text ≤ held.now.tape.layout.size) }
     ensures { (result ≡ text_behind held.now.tape.layout.size text (width_at held.now.tape.bytes.now held.now.tape.layout at)) × (result ≤ held.now.tape.layout.size) }

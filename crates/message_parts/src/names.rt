@@ -88,7 +88,7 @@ fn put_name(message: &mut Message, tape: &Tape, floor: Option<Name>, name: Name)
     message.put(name_at(tape, name));
 }
 
-// The names above `floor`, and the bracket behind them.
+// The names above `floor`, and the bracket behind them. No `for`: which name comes next is told by the one that was put.
 #[tactic(auto, using(crate::proofs::Listing::list_last, crate::proofs::Listing::list_next, crate::proofs::Listing::list_falls), unfolding(definition::specs::Text::open_text))]
 pub fn params_above(message: &mut Message, tape: &Tape, params: Params, floor: Option<Name>)
     ensures { PutsAll (list_above (spelled tape.now.bytes.now tape.now.layout floor) (rest (spelled tape.now.bytes.now tape.now.layout floor) (names_at tape.now.bytes.now tape.now.layout params.place params.count)) ∷ utf8 ")" ∷ []) message.old message.new }

@@ -1,5 +1,6 @@
 // The numbers that an operation gives by itself, under the names that `include/neukolja.h` has for them (documents 01 and 02). Those of
 // a reason with a message, 10 to 47, stand in `messages::number`, and those of acceptance in `tape::header::Fault`.
+// They are no enum: the number is what C reads, and each operation has a few of them.
 #![tactic(auto)]
 
 pub const OK: u32 = 0;

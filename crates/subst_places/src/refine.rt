@@ -12,7 +12,8 @@ use tape::layout::Place;
 use walk_state::writing::Cursor;
 
 // The code of the condition that a base comes out as. It is read from the input, since a full output has it no more. The one of
-// `expand_calls` reads the condition, where a call's outcome stands at the front of the result buffer.
+// `expand_calls` reads the condition, where a call's outcome stands at the front of the result buffer. 0, which is no code, where there is
+// no entry: so the definition has it, and a fold takes it for no predicate.
 #[tactic(auto, unfolding(crate::specs::Refines::shape_in))]
 pub fn shape_of(s: &Substitution, p: Place) -> u8
     ensures { result ≡ shape_in s.now.definition.bytes.now s.now.args.now (maps_at s.now) p }

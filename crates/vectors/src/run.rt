@@ -5,7 +5,8 @@ use answer::Answer;
 use buffer::{read_size, read_value};
 use preview::Previewed;
 
-// The buffers that an operation is lent, full of bytes that are not zero.
+// The buffers that an operation is lent, full of bytes that are not zero. Slices that are lent to be written have neither Debug nor
+// equality.
 #[derive(Drop)]
 struct Buffers<'a> {
     result: &'a mut [u8],
@@ -13,7 +14,7 @@ struct Buffers<'a> {
     message: &'a mut [u8],
 }
 
-// The five numbers of an answer.
+// The five numbers of an answer, each beside the eight bytes that the list has for it: no equality of two values.
 fn tells_answer(r: Answer, numbers: &[u8]) -> bool {
     let span = r.span;
     r.number as u64 == read_value(numbers, 0)
