@@ -6,19 +6,17 @@ use mathlib.Core.Path.{◌≡◌, refl, sym, ◌∙◌, ap, subst}
 use mathlib.Core.Logic.{◌≢◌, ◌↔◌, ◌⊎◌, inl, inr}
 use mathlib.Core.List.{List, []}
 use mathlib.Core.Bool.{Bool, true, false, false≢true}
-use lib.Dec.{T, leb, leb→le}
 use Rattle.format.specs.Entry.{encode}
 use Rattle.format.specs.Ast.{Condition, Tree, MacroDef}
 use Rattle.format.specs.Flat.{flat_condition, flat_tree}
 use Rattle.format.specs.Tape.{Reading, condition_root, named_root, registry_root, read}
-use Rattle.format.proofs.Tests.{and_left, and_right}
 use Rattle.definition.specs.Outcome.{Refusal, refusal, Outcome, proceed, number_of, span_start, span_end}
 use Rattle.definition.specs.Expand.{expand}
 use Rattle.definition.specs.Answers.{Answer, Buffers, answer, number_alone, reading, long_buffers, tree_answer, expand_tapes, expand_answer}
 use Rattle.definition.specs.Agree.{protected_names, Generated, Agree, same_but_names}
 use Rattle.definition.specs.Judge.{require_equal, judge, longest_name, judge_tapes, judge_answer, Equal, Different, JudgeExact, Accepted, OnTapes, JudgeOnTapes, NotEqual, JudgeAnswers, JudgeCharges, YesIsOurs, NoIsLast}
 use Rattle.definition.proofs.Good.{good_done, good_refused}
-use Rattle.definition.proofs.Rules.{in_table}
+use Rattle.definition.proofs.Rules.{in_01, Tabled, table_bounds}
 use Rattle.definition.proofs.Borne.{Small, expand_small}
 use Rattle.definition.proofs.Agree.{walk_decides}
 use Rattle.definition.proofs.Generated.{names_generated}
@@ -26,11 +24,11 @@ use Rattle.definition.proofs.Generated.{names_generated}
 -- ------------------------------------------------------------------ the numbers of expansion
 
 -- a refusal of expansion is one of 01's table, neither 0 nor 50 (`expand_small` of Borne)
-pub table_from_lem : (k : ℕ) → T (in_table k) → 1 ≤ k
-table_from_lem k t = leb→le 1 k (and_left (leb 1 k) _ t)
+pub table_from_lem : (r : Refusal) → Tabled in_01 r → 1 ≤ r.number
+table_from_lem r t = (table_bounds t).0
 
-table_to : (k : ℕ) → T (in_table k) → k ≤ 48
-table_to k t = leb→le k 48 (and_right (leb 1 k) _ t)
+table_to : (r : Refusal) → Tabled in_01 r → r.number ≤ 48
+table_to r t = (table_bounds t).1
 
 -- ------------------------------------------------------------------ on trees
 
@@ -87,8 +85,8 @@ judge_exact limit file defs input theirs =
       (λ z. record { ours = t; charged = n; succeeds = e; disagree = λ a. false≢true (sym s ∙ (says t n e).1 a) }, λ q. refl),
     )
     sides o p e (refused_too {r = r} {n = n}) (good_refused h) = (
-      (λ z. absurd (omega (arith, table_from_lem r.number h)), λ q. absurd (not_both (sym e ∙ q.succeeds))),
-      (λ z. absurd (omega (arith, table_to r.number h)), λ q. absurd (not_both (sym e ∙ q.succeeds))),
+      (λ z. absurd (omega (arith, table_from_lem r h)), λ q. absurd (not_both (sym e ∙ q.succeeds))),
+      (λ z. absurd (omega (arith, table_to r h)), λ q. absurd (not_both (sym e ∙ q.succeeds))),
     )
 
 -- ------------------------------------------------------------------ on tapes
@@ -259,7 +257,7 @@ expand_number b limit file registry input = go (long_buffers b) (read registry_r
 
     small : {o : Outcome Tree} → Small o → number_of o ≤ 48
     small (good_done h) = omega arith
-    small (good_refused {r = r} h) = table_to r.number h
+    small (good_refused {r = r} h) = table_to r h
 
     made : (o : Outcome Tree) → number_of o ≤ 48 → (answer tape b o).number ≤ 48
     made o h = subst (λ (k : ℕ). k ≤ 48) (sym (number_answer tape b o)) h

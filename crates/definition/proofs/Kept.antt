@@ -31,7 +31,8 @@ use Rattle.definition.proofs.Lengths.{Short, Name, Declared, Number, short_reser
 use Rattle.definition.proofs.Lookup.{each_def}
 use Rattle.definition.proofs.Readings.{of_reading}
 use Rattle.definition.proofs.Verdicts.{Given, passes, refuses, Any, given_body, given_build}
-use Rattle.definition.proofs.Rules.{closed_texts, Rules, Unasked, Known, RefusalMatches, Fits}
+use Rattle.definition.specs.Ends.{substitution_numbers, expansion_numbers}
+use Rattle.definition.proofs.Rules.{closed_texts, in_01, tabled, includes, Rules, Unasked, Known, RefusalMatches, Fits}
 use Rattle.definition.proofs.SaidSubstitute.{def_name, def_body, said_substitute}
 use Rattle.definition.proofs.SaidExpand.{said_expand}
 
@@ -47,9 +48,10 @@ SizedDef d = All Sized (flat_def d)
 pub no_message : Short []
 no_message = lit≤ tt
 
-short_rules : (limit file : ℕ) → limit < 2 ^ 32 → Rules Name Unasked Unasked Unasked Short Number (λ n. n ≤ limit) limit file
+short_rules : (limit file : ℕ) → limit < 2 ^ 32 → Rules in_01 Name Unasked Unasked Unasked Short Number (λ n. n ≤ limit) limit file
 short_rules limit file small =
     record {
+      within = includes in_01 substitution_numbers tt;
       closed = closed_texts Any (λ t k start. tt);
       charged = λ n h. h;
       says_nothing = no_message;
@@ -113,7 +115,7 @@ sized_definition bytes d t = sized (short_texts_lem (flat_def d) (and_left (shor
 -- ------------------------------------------------------------------ the verdicts
 
 abbrev pub ShortRefusal : Refusal → Type 0
-ShortRefusal r = RefusalMatches Short r
+ShortRefusal r = RefusalMatches in_01 Short r
 
 declared_params : (ps : List MacroParam) → All ShortText (flat_params ps) → All Declared (names_of ps)
 unfolding flat_params names_of longest_text is_code
@@ -134,9 +136,9 @@ short_check bytes def t =
     let names = declared_params def.params (all_left (flat_params def.params) _ (all_tail (all_tail (all_tail texts)))) in
     given_body Name (names_of def.params)
     (record {
-      undeclared = λ n k s. (short_undeclared n k (names_of def.params) names (omega (arith, few, length_names def.params)), tt);
-      plain = λ n k s. (short_plain n k, tt);
-      called = λ s. (short_macro_in_macro, tt);
+      undeclared = λ n k s. (short_undeclared n k (names_of def.params) names (omega (arith, few, length_names def.params)), tabled tt);
+      plain = λ n k s. (short_plain n k, tabled tt);
+      called = λ s. (short_macro_in_macro, tabled tt);
     })
     def.body (all_map (λ e k. k.0) (def_body def (sized_definition bytes def t)))
 
@@ -147,7 +149,7 @@ sized_registry bytes ds t =
 
 pub short_build : (ds : List MacroDef) → All SizedDef ds → Given ShortRefusal (build ds)
 short_build ds h =
-    given_build Name (record { reserved = λ n k s. (short_reserved n k, tt); duplicate = λ n k s p. (short_duplicate n k p, tt) }) ds
+    given_build Name (record { reserved = λ n k s. (short_reserved n k, tabled tt); duplicate = λ n k s p. (short_duplicate n k p, tabled tt) }) ds
     (all_map (λ d s. (def_name {P = Sized} d s).0) h)
 
 -- ------------------------------------------------------------------ the answers
@@ -255,7 +257,7 @@ bounded_tree b limit o f = go (long_buffers b) (λ h. h)
     go false h = bounded_number_alone tree_tape b limit 1
 
 pub bounded_kept : (b : Buffers) (limit : ℕ) {o : Outcome Tree} → 12296 ≤ b.result_length → 2048 ≤ b.message_length
-    → Fits Short Unasked (λ n. n ≤ limit) (λ t. t) o → Bounded b limit (answer tree_tape b o)
+    → Fits in_01 Short Unasked (λ n. n ≤ limit) (λ t. t) o → Bounded b limit (answer tree_tape b o)
 bounded_kept b limit large long (good_done {a = t} {n = n} k) =
     bounded_done tree_tape b limit t n k.0 (omega (arith, tape_length t k.2))
 bounded_kept b limit large long (good_refused {r = r} {n = n} k) =
@@ -275,11 +277,11 @@ substitute_bounded b limit file small definition input p q =
 -- what expansion answers to tapes that are read
 pub kept_expanded : (limit file : ℕ) → limit < 2 ^ 32 → (registry input : List ℕ) → Bytes registry → Bytes input
     → (defs : List MacroDef) → read registry_root registry ≡ Reading.accepted defs → (c : Condition) → read condition_root input ≡ Reading.accepted c
-    → Fits Short Unasked (λ n. n ≤ limit) (λ t. t) (expand limit file defs c)
+    → Fits in_01 Short Unasked (λ n. n ≤ limit) (λ t. t) (expand limit file defs c)
 kept_expanded limit file small registry input p q defs h condition k =
     let ds = sized_registry _ defs (read_on_tape registry_root rewrites_registry lawful_registry registry p defs h) in
     let c = read_on_tape condition_root rewrites_condition lawful_condition input q condition k in
-    said_expand defs limit file (short_rules limit file small) ds (short_build defs ds) condition (sized_condition _ condition c)
+    said_expand defs limit file (short_rules limit file small) (includes in_01 expansion_numbers tt) ds (short_build defs ds) condition (sized_condition _ condition c)
 
 pub expand_bounded : ExpandBounded
 unfolding expand_answer expand_tapes

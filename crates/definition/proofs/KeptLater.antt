@@ -33,7 +33,7 @@ use Rattle.definition.specs.Agree.{protected_names, same_but_names}
 use Rattle.definition.specs.Judge.{require_equal, judge, longest_name, judge_tapes, judge_answer}
 use Rattle.definition.proofs.Good.{good_done, good_refused}
 use Rattle.definition.proofs.Lengths.{Short}
-use Rattle.definition.proofs.Rules.{Unasked, Fits}
+use Rattle.definition.proofs.Rules.{in_01, Unasked, Fits}
 use Rattle.definition.proofs.Verdicts.{Given, passes, refuses, both}
 use Rattle.definition.proofs.Kept.{no_message, ShortRefusal, nothing, short_check, sized_registry, short_build, bounded_done, bounded_refused, bounded_number_alone, bounded_reading, bounded_message, bounded_verdict, tree_tape, bounded_tree, bounded_kept, kept_expanded, expand_bounded}
 use Rattle.definition.proofs.Library.{found_at}
@@ -178,7 +178,7 @@ profile_bounded input =
 
 -- a judge keeps what expansion keeps, and 50 has no message
 bounded_judge : (b : Buffers) (limit : ℕ) (same : Tree → Bool) {o : Outcome Tree} → 12296 ≤ b.result_length → 2048 ≤ b.message_length
-    → Fits Short Unasked (λ n. n ≤ limit) (λ t. t) o → Bounded b limit (answer tree_tape b (proceed o λ t. require_equal (same t) t))
+    → Fits in_01 Short Unasked (λ n. n ≤ limit) (λ t. t) o → Bounded b limit (answer tree_tape b (proceed o λ t. require_equal (same t) t))
 unfolding proceed require_equal
 bounded_judge b limit same large long (good_refused k) = bounded_kept b limit large long (good_refused k)
 bounded_judge b limit same large long (good_done {a = t} {n = n} k) = go (same t)

@@ -220,17 +220,17 @@ is_condition_lem limit file defs c = go (build defs)
     go (some r) = good_refused tt
 
 -- what an answer of 0 stands on
-record Expanded (b : Buffers) (limit file : ℕ) (registry input : List ℕ) : Type 0 where
-  long_enough : long_buffers b ≡ true
-  defs : List MacroDef
-  condition : Condition
-  its_registry : read registry_root registry ≡ Reading.accepted defs
-  its_condition : read condition_root input ≡ Reading.accepted condition
-  ours : Condition
-  charged : ℕ
-  succeeds : expand limit file defs condition ≡ Outcome.done (Tree.condition ours) charged
+pub record Expanded (b : Buffers) (limit file : ℕ) (registry input : List ℕ) : Type 0 where
+  pub long_enough : long_buffers b ≡ true
+  pub defs : List MacroDef
+  pub condition : Condition
+  pub its_registry : read registry_root registry ≡ Reading.accepted defs
+  pub its_condition : read condition_root input ≡ Reading.accepted condition
+  pub ours : Condition
+  pub charged : ℕ
+  pub succeeds : expand limit file defs condition ≡ Outcome.done (Tree.condition ours) charged
 
-expanded : (b : Buffers) (limit file : ℕ) (registry input : List ℕ) → (expand_answer b limit file registry input).number ≡ 0 → Expanded b limit file registry input
+pub expanded : (b : Buffers) (limit file : ℕ) (registry input : List ℕ) → (expand_answer b limit file registry input).number ≡ 0 → Expanded b limit file registry input
 unfolding expand_answer tree_answer expand_tapes number_alone number_of
 expanded b limit file registry input = go (long_buffers b) refl
   where
@@ -252,7 +252,7 @@ expanded b limit file registry input = go (long_buffers b) refl
           charged = n;
           succeeds = e ∙ ap (λ (u : Tree). Outcome.done u n) k.1;
         }
-    made long ds r c s (Outcome.refused q n) e (good_refused h) k z = absurd (omega (arith, z, table_from_lem q.number h))
+    made long ds r c s (Outcome.refused q n) e (good_refused h) k z = absurd (omega (arith, z, table_from_lem q h))
 
     read_all : long_buffers b ≡ true → number_of (expand_tapes limit file registry input) ≡ 0 → Expanded b limit file registry input
     read_all long e =

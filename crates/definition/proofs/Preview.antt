@@ -21,13 +21,14 @@ use Rattle.definition.specs.Answers.{Buffers, padded, answer, number_alone, long
 use Rattle.definition.specs.Preview.{entries_in, text_in, without_result, preview, preview_answer, sizes_only, PreviewsExpansion, Previewed, PreviewsAnyExpansion}
 use Rattle.definition.proofs.Good.{good_done, good_refused}
 use Rattle.definition.proofs.Readings.{of_reading}
+use Rattle.definition.proofs.Rules.{tabled}
 use Rattle.definition.proofs.Borne.{Small, expand_small}
 
 small_tapes : (limit file : ℕ) (registry input : List ℕ) → Small (expand_tapes limit file registry input)
 unfolding expand_tapes number_alone
 small_tapes limit file registry input =
-    of_reading (λ (o : Outcome Tree). Small o) (read registry_root registry) _ (good_refused tt) (good_refused tt) λ defs h.
-    of_reading (λ (o : Outcome Tree). Small o) (read condition_root input) _ (good_refused tt) (good_refused tt) λ c k.
+    of_reading (λ (o : Outcome Tree). Small o) (read registry_root registry) _ (good_refused (tabled tt)) (good_refused (tabled tt)) λ defs h.
+    of_reading (λ (o : Outcome Tree). Small o) (read condition_root input) _ (good_refused (tabled tt)) (good_refused (tabled tt)) λ c k.
     expand_small limit file defs c
 
 -- ------------------------------------------------------------------ the sizes that a result begins with
@@ -65,7 +66,7 @@ previews r w m limit file registry input large = rw (le-leb 12296 r large) (go (
         ≡ sizes_only (answer (λ (t : Tree). encode (flat_tree t)) (record { result_length = r; work_length = w; message_length = m })
         (elim long [ true ↦ expand_tapes limit file registry input | false ↦ number_alone 1 ]))
     go true = same r w m (expand_tapes limit file registry input) (small_tapes limit file registry input)
-    go false = same r w m (number_alone 1) (good_refused tt)
+    go false = same r w m (number_alone 1) (good_refused (tabled tt))
 
 -- ------------------------------------------------------------------ any buffers
 

@@ -5,18 +5,20 @@
 -- Assumes nothing.
 use Prim.Native.Nat.{ℕ, ◌≤◌}
 use mathlib.Core.Path.{◌≡◌}
-use mathlib.Core.List.{List, []}
-use mathlib.Core.Bool.{Bool, false, ◌&&◌}
-use lib.Dec.{T, leb}
+use mathlib.Core.List.{List, [], ◌∷◌, ◌++◌}
+use mathlib.Core.Bool.{Bool, true, false, ◌&&◌, ◌||◌}
+use lib.Dec.{T, eqb, leb, eqb→eq, leb→le}
 use Rattle.format.specs.Entry.{Text, Entry, entry, text_entry}
 use Rattle.format.specs.Ast.{Sigil, Condition, Tree, MacroDef}
 use Rattle.format.specs.Flat.{flat_tree}
 use Rattle.format.specs.Limits.{too_large_tree}
 use Rattle.format.proofs.All.{All, all_map, all_both}
+use Rattle.format.proofs.Tests.{and_left, and_right, and_both}
 use Rattle.definition.specs.Outcome.{Refusal, Outcome, span_start}
 use Rattle.definition.specs.Messages.{unknown_macro, cedar_in_condition, cedar_in_value, value_as_condition, condition_as_value, argument_count, budget_exceeded, stray_condition, stray_within, stray_slot, stray_field, stray_operand, unbound_parameter, not_a_condition, binder_as_condition, not_an_interval, not_a_term, not_an_identifier, not_a_predicate}
 use Rattle.definition.specs.Substitute.{generated}
 use Rattle.definition.specs.Registry.{build}
+use Rattle.definition.specs.Ends.{substitution_numbers}
 use Rattle.definition.proofs.Good.{Good, good_done, good_refused}
 use Rattle.definition.proofs.Verdicts.{Any, Given, given_build, all_any}
 
@@ -47,7 +49,82 @@ closed_texts M new =
       arrayed = λ k l m. m;
     }
 
-pub record Rules (N : Text → Type 0) (B I M : Entry → Type 0) (S : Text → Type 0) (K C : ℕ → Type 0) (limit file : ℕ) : Type 0 where
+-- ------------------------------------------------------------------ the numbers
+
+pub either_test : {A : Type 0} (a b : Bool) → T (a || b) → (T a → A) → (T b → A) → A
+either_test true b t f g = f tt
+either_test false b t f g = g t
+
+-- "Messages are those of 000; 1, 2, 3 and all from 48 up have none."
+abbrev pub spoken : List ℕ
+spoken =
+    10 ∷ 11 ∷ 20 ∷ 21 ∷ 22 ∷ 30 ∷ 31 ∷ 32 ∷ 33 ∷ 34 ∷ 35 ∷ 36 ∷ 37 ∷ 38 ∷ 39 ∷ 40 ∷ 41 ∷ 42 ∷ 43 ∷ 44 ∷ 45 ∷ 46 ∷ 47 ∷ []
+
+abbrev pub is_silent : Text → Bool
+is_silent [] = true
+is_silent (b ∷ t) = false
+
+abbrev pub listed : List ℕ → ℕ → Bool
+listed [] c = false
+listed (k ∷ ks) c = eqb c k || listed ks c
+
+-- a refusal has one of the numbers, and a message only if that has one
+abbrev pub in_table : List ℕ → Refusal → Bool
+in_table numbers r = listed numbers r.number && (listed spoken r.number || is_silent r.message)
+
+pub record Tabled (numbers : List ℕ) (r : Refusal) : Type 0 where
+  pub its_row : T (in_table numbers r)
+
+-- of a refusal whose number is written
+pub tabled : {numbers : List ℕ} {r : Refusal} → T (in_table numbers r) → Tabled numbers r
+tabled h = record { its_row = h }
+
+-- every number of document 01's table
+abbrev pub in_01 : List ℕ
+in_01 = 1 ∷ 2 ∷ 3 ∷ (spoken ++ (48 ∷ []))
+
+abbrev pub Includes : (many few : List ℕ) → Type 0
+Includes many few = (r : Refusal) → Tabled few r → Tabled many r
+
+abbrev pub all_listed : (many few : List ℕ) → Bool
+all_listed many [] = true
+all_listed many (k ∷ ks) = listed many k && all_listed many ks
+
+first_listed : (many : List ℕ) (k c : ℕ) → T (listed many k) → T (eqb c k) → T (listed many c)
+first_listed many k c h e = rw (eqb→eq c k e) h
+
+pub listed_too : (many few : List ℕ) → T (all_listed many few) → (c : ℕ) → T (listed few c) → T (listed many c)
+listed_too many [] h c t = absurd t
+listed_too many (k ∷ ks) h c t =
+    either_test (eqb c k) (listed ks c) t (first_listed many k c (and_left (listed many k) (all_listed many ks) h))
+    (listed_too many ks (and_right (listed many k) (all_listed many ks) h) c)
+
+pub includes : (many few : List ℕ) → T (all_listed many few) → Includes many few
+includes many few h r t =
+    let n : Bool = listed few r.number in
+    let m : Bool = listed spoken r.number || is_silent r.message in
+    tabled (and_both (listed many r.number) m (listed_too many few h r.number (and_left n m t.its_row)) (and_right n m t.its_row))
+
+-- each of them lies between two numbers
+abbrev pub all_between : (low high : ℕ) → List ℕ → Bool
+all_between low high [] = true
+all_between low high (k ∷ ks) = (leb low k && leb k high) && all_between low high ks
+
+first_between : (low high k c : ℕ) → T (leb low k && leb k high) → T (eqb c k) → (low ≤ c) × (c ≤ high)
+first_between low high k c h e =
+    rw (eqb→eq c k e) (leb→le low k (and_left (leb low k) (leb k high) h), leb→le k high (and_right (leb low k) (leb k high) h))
+
+pub between : (low high : ℕ) (ks : List ℕ) → T (all_between low high ks) → (c : ℕ) → T (listed ks c) → (low ≤ c) × (c ≤ high)
+between low high [] h c t = absurd t
+between low high (k ∷ ks) h c t =
+    either_test (eqb c k) (listed ks c) t (first_between low high k c (and_left (leb low k && leb k high) (all_between low high ks) h))
+    (between low high ks (and_right (leb low k && leb k high) (all_between low high ks) h) c)
+
+pub table_bounds : {r : Refusal} → Tabled in_01 r → (1 ≤ r.number) × (r.number ≤ 48)
+table_bounds {r} t = between 1 48 in_01 tt r.number (and_left (listed in_01 r.number) _ t.its_row)
+
+pub record Rules (numbers : List ℕ) (N : Text → Type 0) (B I M : Entry → Type 0) (S : Text → Type 0) (K C : ℕ → Type 0) (limit file : ℕ) : Type 0 where
+  pub within : Includes numbers substitution_numbers
   pub closed : Closed N B I M file
   pub charged : (n : ℕ) → n ≤ limit → C n
   -- the messages, by number; 3 and 48 have none
@@ -76,38 +153,37 @@ pub record Rules (N : Text → Type 0) (B I M : Entry → Type 0) (S : Text → 
 abbrev pub Any-number : ℕ → Type 0
 Any-number n = Unit {0}
 
--- of a refusal that it is one of 01's table
-abbrev pub in_table : ℕ → Bool
-in_table number = leb 1 number && leb number 48
-
-abbrev pub AnswersRefusal : Refusal → ℕ → Type 0
-AnswersRefusal r n = T (in_table r.number)
+-- of a refusal that it is one of the numbers
+abbrev pub AnswersRefusal : List ℕ → Refusal → ℕ → Type 0
+AnswersRefusal numbers r n = Tabled numbers r
 
 -- what is known of an entry, X being B or I
 abbrev pub Known : (N : Text → Type 0) (M : Entry → Type 0) (K : ℕ → Type 0) (X : Entry → Type 0) → Entry → Type 0
 Known N M K X e = N e.text × K e.value × M e × X e
 
 -- a refusal's message, and its number
-abbrev pub RefusalMatches : (Text → Type 0) → Refusal → Type 0
-RefusalMatches S r = S r.message × T (in_table r.number)
+abbrev pub RefusalMatches : List ℕ → (Text → Type 0) → Refusal → Type 0
+RefusalMatches numbers S r = S r.message × Tabled numbers r
 
 -- what holds of a refusal, and of an outcome whose value is spelled by `flat`
-abbrev pub Said : (Text → Type 0) → (ℕ → Type 0) → Refusal → ℕ → Type 0
-Said S C r n = RefusalMatches S r × C n
+abbrev pub Said : List ℕ → (Text → Type 0) → (ℕ → Type 0) → Refusal → ℕ → Type 0
+Said numbers S C r n = RefusalMatches numbers S r × C n
 
-abbrev pub Answers : {A : Type 0} → (S : Text → Type 0) (M : Entry → Type 0) (C : ℕ → Type 0) (flat : A → List Entry) → Outcome A → Type 0
-Answers S M C flat o = Good (Said S C) (λ a n. C n × All M (flat a)) o
+abbrev pub Answers : {A : Type 0} → (numbers : List ℕ) (S : Text → Type 0) (M : Entry → Type 0) (C : ℕ → Type 0) (flat : A → List Entry) → Outcome A → Type 0
+Answers numbers S M C flat o = Good (Said numbers S C) (λ a n. C n × All M (flat a)) o
 
 -- a tree that is not too large besides
-abbrev pub Fits : {A : Type 0} → (S : Text → Type 0) (M : Entry → Type 0) (C : ℕ → Type 0) (f : A → Tree) → Outcome A → Type 0
-Fits S M C f o = Good (Said S C) (λ a n. C n × All M (flat_tree (f a)) × (too_large_tree (f a) ≡ false)) o
+abbrev pub Fits : {A : Type 0} → (numbers : List ℕ) (S : Text → Type 0) (M : Entry → Type 0) (C : ℕ → Type 0) (f : A → Tree) → Outcome A → Type 0
+Fits numbers S M C f o = Good (Said numbers S C) (λ a n. C n × All M (flat_tree (f a)) × (too_large_tree (f a) ≡ false)) o
 
 -- ------------------------------------------------------------------ of a tree alone
 
 -- no rule but that of the entries
-pub rules_of : {B I M : Entry → Type 0} (limit : ℕ) {file : ℕ} → Closed Any B I M file → Rules Any B I M Any Any-number Any-number limit file
-rules_of limit closed =
+pub rules_of : {numbers : List ℕ} {B I M : Entry → Type 0} → Includes numbers substitution_numbers → (limit : ℕ) {file : ℕ} → Closed Any B I M file
+    → Rules numbers Any B I M Any Any-number Any-number limit file
+rules_of within limit closed =
     record {
+      within = within;
       closed = closed;
       charged = λ n h. tt;
       says_nothing = tt;
@@ -133,15 +209,16 @@ rules_of limit closed =
     }
 
 abbrev pub Bears : {A : Type 0} → (M : Entry → Type 0) (flat : A → List Entry) → Outcome A → Type 0
-Bears M flat o = Good AnswersRefusal (λ a n. All M (flat a)) o
+Bears M flat o = Good (AnswersRefusal in_01) (λ a n. All M (flat a)) o
 
 -- what is known of each entry, and what besides
 pub known_each : (M X : Entry → Type 0) {es : List Entry} → All M es → All X es → All (Known Any M Any-number X) es
 known_each M X h x = all_map (λ e m. (tt, tt, m.0, m.1)) (all_both h x)
 
-pub bears : (M : Entry → Type 0) {o : Outcome Tree} → Fits Any M Any-number (λ t. t) o → Bears M flat_tree o
+pub bears : (M : Entry → Type 0) {o : Outcome Tree} → Fits in_01 Any M Any-number (λ t. t) o → Bears M flat_tree o
 bears M (good_done h) = good_done h.1
 bears M (good_refused h) = good_refused h.0.1
 
-pub refuses_build : (ds : List MacroDef) → Given (RefusalMatches Any) (build ds)
-refuses_build ds = given_build Any (record { reserved = λ n k s. (tt, tt); duplicate = λ n k s p. (tt, tt) }) ds (all_any ds)
+pub refuses_build : {numbers : List ℕ} → Includes numbers (10 ∷ 11 ∷ []) → (ds : List MacroDef) → Given (RefusalMatches numbers Any) (build ds)
+refuses_build within ds =
+    given_build Any (record { reserved = λ n k s. (tt, within _ (tabled tt)); duplicate = λ n k s p. (tt, within _ (tabled tt)) }) ds (all_any ds)

@@ -17,28 +17,30 @@ use Rattle.definition.specs.Expand.{Registry, check_concrete_within, check_concr
 use Rattle.definition.proofs.Good.{Good, good_done, good_refused, step, weaken}
 use Rattle.definition.proofs.Lookup.{Found, not_found, found, found_in_lem}
 use Rattle.definition.proofs.Verdicts.{Given, passes, refuses}
-use Rattle.definition.proofs.Rules.{Rules, Known, RefusalMatches, Said, Answers, Fits}
+use Rattle.definition.specs.Ends.{expansion_numbers}
+use Rattle.definition.proofs.Rules.{tabled, Includes, Rules, Known, RefusalMatches, Said, Answers, Fits}
 use Rattle.definition.proofs.SaidSubstitute.{span_of, own, said_arity, said_limits, said_charge_body, said_refine, def_body, said_substitute_condition, said_substitute_value}
 
-module _ {N S : Text → Type 0} {B I M : Entry → Type 0} {K C : ℕ → Type 0} (defs : List MacroDef) (limit file : ℕ) (rules : Rules N B I M S K C limit file) where
+module _ {numbers : List ℕ} {N S : Text → Type 0} {B I M : Entry → Type 0} {K C : ℕ → Type 0} (defs : List MacroDef) (limit file : ℕ)
+    (rules : Rules numbers N B I M S K C limit file) (wide : Includes numbers expansion_numbers) where
   abbrev reg : Registry
   reg = record { defs = defs; limit = limit; file = file }
 
   abbrev Tests : Outcome (Unit {0}) → Type 0
-  Tests o = Good (Said S C) (λ u n. C n) o
+  Tests o = Good (Said numbers S C) (λ u n. C n) o
 
   -- ------------------------------------------------------------------ stray sigils
 
   said_check_within : (w : WithinSpec) → N (flat_within w).text → (span n : ℕ) → C n → Tests (check_concrete_within w span n)
   unfolding check_concrete_within flat_within
   said_check_within (WithinSpec.Concrete i) k span n h = good_done h
-  said_check_within (WithinSpec.ParamRef i) k span n h = good_refused ((rules.says_37 i k, tt), h)
+  said_check_within (WithinSpec.ParamRef i) k span n h = good_refused ((rules.says_37 i k, wide _ (tabled tt)), h)
 
   said_check_slot : (v : BinderSlot) → N (flat_slot v).text → (span n : ℕ) → C n → Tests (check_concrete_slot v span n)
   unfolding check_concrete_slot flat_slot
   said_check_slot (BinderSlot.Name i) k span n h = good_done h
-  said_check_slot (BinderSlot.ParamRef i) k span n h = good_refused ((rules.says_38 i k Sigil.Param, tt), h)
-  said_check_slot (BinderSlot.BinderRef i) k span n h = good_refused ((rules.says_38 i k Sigil.Binder, tt), h)
+  said_check_slot (BinderSlot.ParamRef i) k span n h = good_refused ((rules.says_38 i k Sigil.Param, wide _ (tabled tt)), h)
+  said_check_slot (BinderSlot.BinderRef i) k span n h = good_refused ((rules.says_38 i k Sigil.Binder, wide _ (tabled tt)), h)
 
   said_check_binders : (bs : List TypedBinder) → All (Known N M K I) (flat_binders bs) → (span n : ℕ) → C n → Tests (check_concrete_binders bs span n)
   unfolding check_concrete_binders ◌>>=◌ ◌>>◌ flat_binders flat_binder
@@ -51,8 +53,8 @@ module _ {N S : Text → Type 0} {B I M : Entry → Type 0} {K C : ℕ → Type 
     unfolding check_concrete_term ◌>>=◌ ◌>>◌ flat_term
 
     said_check_term : (t : Term) → All (Known N M K I) (flat_term t) → (span n : ℕ) → C n → Tests (check_concrete_term t span n)
-    said_check_term (Term.ParamRef i) k span n h = good_refused ((rules.says_39 i (all_head k).0 Sigil.Param, tt), h)
-    said_check_term (Term.BinderRef i) k span n h = good_refused ((rules.says_39 i (all_head k).0 Sigil.Binder, tt), h)
+    said_check_term (Term.ParamRef i) k span n h = good_refused ((rules.says_39 i (all_head k).0 Sigil.Param, wide _ (tabled tt)), h)
+    said_check_term (Term.BinderRef i) k span n h = good_refused ((rules.says_39 i (all_head k).0 Sigil.Binder, wide _ (tabled tt)), h)
     said_check_term (Term.Array ts) k span n h = said_check_terms ts (all_tail k) span n h
     said_check_term (Term.Entity ty id) k span n h = good_done h
     said_check_term (Term.Integer i) k span n h = good_done h
@@ -83,31 +85,31 @@ module _ {N S : Text → Type 0} {B I M : Entry → Type 0} {K C : ℕ → Type 
 
   -- something of the registry's
   abbrev Takes : {A : Type 0} → (A → Type 0) → Outcome A → Type 0
-  Takes P o = Good (Said S C) (λ a n. C n × P a) o
+  Takes P o = Good (Said numbers S C) (λ a n. C n × P a) o
 
   said_condition_body : (body : MacroBody) → All (Known N M K B) (flat_body body) → (name : Text) → N name → (span n : ℕ) → C n
       → Takes (λ (c : Condition). All (Known N M K B) (flat_condition c)) (condition_body body name span n)
   unfolding condition_body flat_body
   said_condition_body (MacroBody.TemporalCondition c) b name k span n h = good_done (h, all_tail b)
-  said_condition_body MacroBody.Cedar b name k span n h = good_refused ((rules.says_31 name k, tt), h)
-  said_condition_body (MacroBody.TemporalValue t) b name k span n h = good_refused ((rules.says_32 name k, tt), h)
+  said_condition_body MacroBody.Cedar b name k span n h = good_refused ((rules.says_31 name k, wide _ (tabled tt)), h)
+  said_condition_body (MacroBody.TemporalValue t) b name k span n h = good_refused ((rules.says_32 name k, wide _ (tabled tt)), h)
 
   said_value_body : (body : MacroBody) → All (Known N M K B) (flat_body body) → (name : Text) → N name → (span n : ℕ) → C n
       → Takes (λ (t : Term). All (Known N M K B) (flat_term t)) (value_body body name span n)
   unfolding value_body flat_body
   said_value_body (MacroBody.TemporalValue t) b name k span n h = good_done (h, all_tail b)
-  said_value_body MacroBody.Cedar b name k span n h = good_refused ((rules.says_31_value name k, tt), h)
-  said_value_body (MacroBody.TemporalCondition c) b name k span n h = good_refused ((rules.says_33 name k, tt), h)
+  said_value_body MacroBody.Cedar b name k span n h = good_refused ((rules.says_31_value name k, wide _ (tabled tt)), h)
+  said_value_body (MacroBody.TemporalCondition c) b name k span n h = good_refused ((rules.says_33 name k, wide _ (tabled tt)), h)
 
-  said_as_agg : (w : Walk AggExpr) (n : ℕ) → M (entry 30 0) → Answers S M C flat_agg (w n) → Answers S M C flat_term (as_agg w n)
+  said_as_agg : (w : Walk AggExpr) (n : ℕ) → M (entry 30 0) → Answers numbers S M C flat_agg (w n) → Answers numbers S M C flat_term (as_agg w n)
   unfolding as_agg ◌>>=◌ flat_term
   said_as_agg w n m g = step g λ a n₁ h₁. good_done (h₁.0, all_cons m h₁.1)
 
-  said_as_condition_arg : (w : Walk Condition) (n : ℕ) → M (entry 55 0) → Answers S M C flat_condition (w n) → Answers S M C flat_arg (as_condition_arg w n)
+  said_as_condition_arg : (w : Walk Condition) (n : ℕ) → M (entry 55 0) → Answers numbers S M C flat_condition (w n) → Answers numbers S M C flat_arg (as_condition_arg w n)
   unfolding as_condition_arg ◌>>=◌ flat_arg
   said_as_condition_arg w n m g = step g λ c n₁ h₁. good_done (h₁.0, all_cons m h₁.1)
 
-  said_as_term_arg : (w : Walk Term) (n : ℕ) → M (entry 56 0) → Answers S M C flat_term (w n) → Answers S M C flat_arg (as_term_arg w n)
+  said_as_term_arg : (w : Walk Term) (n : ℕ) → M (entry 56 0) → Answers numbers S M C flat_term (w n) → Answers numbers S M C flat_arg (as_term_arg w n)
   unfolding as_term_arg ◌>>=◌ flat_arg
   said_as_term_arg w n m g = step g λ t n₁ h₁. good_done (h₁.0, all_cons m h₁.1)
 
@@ -122,7 +124,7 @@ module _ {N S : Text → Type 0} {B I M : Entry → Type 0} {K C : ℕ → Type 
               | some d ↦ pure d
               | none ↦ refuse 30 span (unknown_macro name)
             ]) n)
-        go none not_found = good_refused ((rules.says_30 name k, tt), h)
+        go none not_found = good_refused ((rules.says_30 name k, wide _ (tabled tt)), h)
         go (some d) (found q) = good_done (h, q)
 
     -- ------------------------------------------------------------------ the walk
@@ -131,7 +133,7 @@ module _ {N S : Text → Type 0} {B I M : Entry → Type 0} {K C : ℕ → Type 
       unfolding expand_temporal_condition ◌>>=◌ ◌>>◌ flat_condition flat_binder flat_tree args_of span_of
 
       said_condition : (c : Condition) → All (Known N M K I) (flat_condition c) → (n : ℕ) → C n
-          → Answers S M C flat_condition (expand_temporal_condition reg c n)
+          → Answers numbers S M C flat_condition (expand_temporal_condition reg c n)
       said_condition (Condition.And s l r) k n h =
           step (said_condition l (all_left (flat_condition l) _ (all_tail k)) n h) λ l' n₁ h₁.
           step (said_condition r (all_right (flat_condition l) (all_tail k)) n₁ h₁.0) λ r' n₂ h₂.
@@ -168,19 +170,19 @@ module _ {N S : Text → Type 0} {B I M : Entry → Type 0} {K C : ℕ → Type 
           step (said_condition c (all_right (flat_binder b) (all_tail k)) n₁ h₁) λ c' n₂ h₂.
           good_done (h₂.0, all_cons (all_head k).2 (all_append (own rules (all_left (flat_binder b) _ (all_tail k))) h₂.1))
       said_condition (Condition.ConditionCall s c) k n h = said_call_to_condition c (all_tail k) n h
-      said_condition (Condition.SigilRef s g name) k n h = good_refused ((rules.says_36 name (all_head (all_tail k)).0 g, tt), h)
+      said_condition (Condition.SigilRef s g name) k n h = good_refused ((rules.says_36 name (all_head (all_tail k)).0 g, wide _ (tabled tt)), h)
       said_condition (Condition.Refine s o c fs) k n h =
           step (said_condition c (all_left (flat_condition c) _ (all_tail (all_tail k))) n h) λ c' n₁ h₁.
           said_refine rules c' fs o n₁ h₁.0 h₁.1 (own rules (all_tail (all_right (flat_condition c) (all_tail (all_tail k)))))
 
-      said_operand : (t : Term) → All (Known N M K I) (flat_term t) → (n : ℕ) → C n → Answers S M C flat_term (expand_temporal_operand reg t n)
+      said_operand : (t : Term) → All (Known N M K I) (flat_term t) → (n : ℕ) → C n → Answers numbers S M C flat_term (expand_temporal_operand reg t n)
       said_operand (Term.Agg a) k n h = said_agg a (all_head k).2 (all_tail k) n h
       said_operand (Term.Arith op l r) k n h =
           step (said_operand l (all_left (flat_term l) _ (all_tail k)) n h) λ l' n₁ h₁.
           step (said_operand r (all_right (flat_term l) (all_tail k)) n₁ h₁.0) λ r' n₂ h₂.
           good_done (h₂.0, all_cons (all_head k).2 (all_append h₁.1 h₂.1))
-      said_operand (Term.ParamRef i) k n h = good_refused ((rules.says_40 i (all_head k).0 Sigil.Param, tt), h)
-      said_operand (Term.BinderRef i) k n h = good_refused ((rules.says_40 i (all_head k).0 Sigil.Binder, tt), h)
+      said_operand (Term.ParamRef i) k n h = good_refused ((rules.says_40 i (all_head k).0 Sigil.Param, wide _ (tabled tt)), h)
+      said_operand (Term.BinderRef i) k n h = good_refused ((rules.says_40 i (all_head k).0 Sigil.Binder, wide _ (tabled tt)), h)
       said_operand (Term.Entity ty id) k n h = good_done (h, own rules k)
       said_operand (Term.Integer i) k n h = good_done (h, own rules k)
       said_operand (Term.Decimal t) k n h = good_done (h, own rules k)
@@ -193,7 +195,7 @@ module _ {N S : Text → Type 0} {B I M : Entry → Type 0} {K C : ℕ → Type 
       said_operand (Term.Array ts) k n h = good_done (h, own rules k)
 
       said_agg : (a : AggExpr) → M (entry 30 0) → All (Known N M K I) (flat_agg a) → (n : ℕ) → C n
-          → Answers S M C flat_term (expand_agg_operand reg a (expand_temporal_agg reg a) n)
+          → Answers numbers S M C flat_term (expand_agg_operand reg a (expand_temporal_agg reg a) n)
       said_agg (AggExpr.AggCall s c) m k n h = said_call_to_value c (all_tail k) n h
       said_agg (AggExpr.Sum s v bs c) m k n h =
           let rest = all_tail (all_tail (all_tail k)) in
@@ -212,7 +214,7 @@ module _ {N S : Text → Type 0} {B I M : Entry → Type 0} {K C : ℕ → Type 
           good_done (h₂.0, all_cons (all_head k).2 (all_cons (all_head (all_tail k)).2 (all_append (own rules binders) h₂.1))))
 
       said_call_to_condition : (c : Call) → All (Known N M K I) (flat_call c) → (n : ℕ) → C n
-          → Answers S M C flat_condition (expand_temporal_call_to_condition reg c n)
+          → Answers numbers S M C flat_condition (expand_temporal_call_to_condition reg c n)
       said_call_to_condition (Call.MacroCall span name args) k n h =
           let named = (all_head (all_tail k)).0 in
           step (said_resolve name named span n h) λ def n₁ h₁.
@@ -224,7 +226,7 @@ module _ {N S : Text → Type 0} {B I M : Entry → Type 0} {K C : ℕ → Type 
           weaken (λ c' n₇ h₇. (h₇.0, h₇.1))
           (said_substitute_condition rules def h₁.1 body h₂.1 (Call.MacroCall span name args') (all_head k).3 h₄.1 n₆ h₆)
 
-      said_call_to_value : (c : Call) → All (Known N M K I) (flat_call c) → (n : ℕ) → C n → Answers S M C flat_term (expand_temporal_call_to_value reg c n)
+      said_call_to_value : (c : Call) → All (Known N M K I) (flat_call c) → (n : ℕ) → C n → Answers numbers S M C flat_term (expand_temporal_call_to_value reg c n)
       said_call_to_value (Call.MacroCall span name args) k n h =
           let named = (all_head (all_tail k)).0 in
           step (said_resolve name named span n h) λ def n₁ h₁.
@@ -236,25 +238,25 @@ module _ {N S : Text → Type 0} {B I M : Entry → Type 0} {K C : ℕ → Type 
           weaken (λ t' n₇ h₇. (h₇.0, h₇.1))
           (said_substitute_value rules def h₁.1 body h₂.1 (Call.MacroCall span name args') (all_head k).3 h₄.1 n₆ h₆)
 
-      said_args : (args : CallArgs) → All (Known N M K I) (flat_args args) → (n : ℕ) → C n → Answers S M C flat_args (expand_temporal_call_args reg args n)
+      said_args : (args : CallArgs) → All (Known N M K I) (flat_args args) → (n : ℕ) → C n → Answers numbers S M C flat_args (expand_temporal_call_args reg args n)
       said_args CallArgs.no_args k n h = good_done (h, all_nil)
       said_args (CallArgs.cons_arg a rest) k n h =
           step (said_arg a (all_left (flat_arg a) _ k) n h) λ a' n₁ h₁.
           step (said_args rest (all_right (flat_arg a) k) n₁ h₁.0) λ rest' n₂ h₂.
           good_done (h₂.0, all_append h₁.1 h₂.1)
 
-      said_arg : (a : CallArg) → All (Known N M K I) (flat_arg a) → (n : ℕ) → C n → Answers S M C flat_arg (expand_temporal_call_arg reg a n)
+      said_arg : (a : CallArg) → All (Known N M K I) (flat_arg a) → (n : ℕ) → C n → Answers numbers S M C flat_arg (expand_temporal_call_arg reg a n)
       said_arg (CallArg.ConditionArg c) k n h = said_condition_arg c (all_head k).2 (all_tail k) n h (said_condition c (all_tail k) n h)
       said_arg (CallArg.TermArg t) k n h = said_as_term_arg (expand_temporal_operand reg t) n (all_head k).2 (said_operand t (all_tail k) n h)
       said_arg (CallArg.WithinArg i) k n h = good_done (h, own rules k)
 
       said_condition_arg : (c : Condition) → M (entry 55 0) → All (Known N M K I) (flat_condition c) → (n : ℕ) → C n
-          → Answers S M C flat_condition (expand_temporal_condition reg c n)
-          → Answers S M C flat_arg (expand_condition_arg reg c (expand_temporal_condition reg c) n)
+          → Answers numbers S M C flat_condition (expand_temporal_condition reg c n)
+          → Answers numbers S M C flat_arg (expand_condition_arg reg c (expand_temporal_condition reg c) n)
       said_condition_arg (Condition.ConditionCall s c) m k n h g = go (calls_value reg c) (said_call_to_value c (all_tail k) n h)
         where
-          go : (b : Bool) → Answers S M C flat_term (expand_temporal_call_to_value reg c n)
-              → Answers S M C flat_arg ((elim b as (λ x. Walk CallArg) [
+          go : (b : Bool) → Answers numbers S M C flat_term (expand_temporal_call_to_value reg c n)
+              → Answers numbers S M C flat_arg ((elim b as (λ x. Walk CallArg) [
                 | true ↦ as_term_arg (expand_temporal_call_to_value reg c)
                 | false ↦ as_condition_arg (expand_temporal_condition reg (Condition.ConditionCall s c))
               ]) n)
@@ -275,20 +277,20 @@ module _ {N S : Text → Type 0} {B I M : Entry → Type 0} {K C : ℕ → Type 
 
     -- ------------------------------------------------------------------ the operation
 
-    said_whole : (c : Condition) → All (Known N M K I) (flat_condition c) → (n : ℕ) → C n → Fits S M C (λ t. t) (expand_whole reg c n)
+    said_whole : (c : Condition) → All (Known N M K I) (flat_condition c) → (n : ℕ) → C n → Fits numbers S M C (λ t. t) (expand_whole reg c n)
     unfolding expand_whole ◌>>=◌ ◌>>◌ flat_tree
     said_whole c k n h =
         step (said_condition c k n h) λ c' n₁ h₁.
         step (said_limits rules _ 0 n₁ h₁.0) λ u n₂ h₂.
         good_done (h₂.0, h₁.1, h₂.1)
 
-    said_unless : {v : Verdict} {w : Walk Tree} → Given (RefusalMatches S) v
-        → ((n : ℕ) → C n → Fits S M C (λ t. t) (w n)) → (n : ℕ) → C n → Fits S M C (λ t. t) (unless v w n)
+    said_unless : {v : Verdict} {w : Walk Tree} → Given (RefusalMatches numbers S) v
+        → ((n : ℕ) → C n → Fits numbers S M C (λ t. t) (w n)) → (n : ℕ) → C n → Fits numbers S M C (λ t. t) (unless v w n)
     unfolding unless
     said_unless passes g n h = g n h
     said_unless (refuses t) g n h = good_refused (t, h)
 
-    pub said_expand : Given (RefusalMatches S) (build defs) → (c : Condition) → All (Known N M K I) (flat_condition c)
-        → Fits S M C (λ t. t) (expand limit file defs c)
+    pub said_expand : Given (RefusalMatches numbers S) (build defs) → (c : Condition) → All (Known N M K I) (flat_condition c)
+        → Fits numbers S M C (λ t. t) (expand limit file defs c)
     unfolding expand
     said_expand v c k = said_unless v (said_whole c k) 0 (rules.charged 0 (omega arith))

@@ -1,7 +1,8 @@
 -- "No paste cuts a character": specs/Whole.antt, by the rules of the walks with "well-formed" for every text and every message.
 -- Assumes nothing.
+use native.Mathlib.Omega.{arith}
 use Prim.Native.Nat.{ℕ, ◌-◌}
-use mathlib.Core.Path.{◌≡◌, refl, subst}
+use mathlib.Core.Path.{◌≡◌, refl}
 use mathlib.Core.List.{List, [], ◌∷◌}
 use mathlib.Core.Bool.{Bool, true, false}
 use lib.Dec.{T, leb}
@@ -16,7 +17,7 @@ use Rattle.format.proofs.All.{All, all_nil, all_cons, all_head, all_tail, all_le
 use Rattle.format.proofs.Exact.{Lawful, lawful_condition, lawful_definition, lawful_call, lawful_registry}
 use Rattle.format.proofs.Rewritten.{Rewrites, rewrites_condition, rewrites_definition, rewrites_call, rewrites_registry, read_on_tape}
 use Rattle.format.proofs.Utf8.{all_whole, whole_all}
-use Rattle.definition.specs.Outcome.{Refusal, Outcome}
+use Rattle.definition.specs.Outcome.{Refusal, refusal, Outcome}
 use Rattle.definition.specs.Check.{Verdict, names_of, check_def}
 use Rattle.definition.specs.Registry.{build}
 use Rattle.definition.specs.Answers.{Buffers, padded, answer, number_alone, long_buffers, tree_answer, expand_tapes, expand_answer, substitute_tapes, substitute_answer, message_alone, verdict, message_answer, check_answer, registry_answer}
@@ -25,7 +26,8 @@ use Rattle.definition.proofs.Good.{good_done, good_refused}
 use Rattle.definition.proofs.Lookup.{each_def}
 use Rattle.definition.proofs.Readings.{of_reading}
 use Rattle.definition.proofs.Verdicts.{Given, passes, refuses, given_body, given_build}
-use Rattle.definition.proofs.Rules.{closed_texts, Rules, Any-number, Unasked, in_table, Known, RefusalMatches, Fits}
+use Rattle.definition.specs.Ends.{substitution_numbers, expansion_numbers}
+use Rattle.definition.proofs.Rules.{closed_texts, in_01, includes, Rules, Any-number, Unasked, Tabled, tabled, table_bounds, Known, RefusalMatches, Fits}
 use Rattle.definition.proofs.SaidSubstitute.{def_name, def_body, said_substitute}
 use Rattle.definition.proofs.SaidExpand.{said_expand}
 use Rattle.definition.proofs.WholeMessages.{Well, well_generated, well_reserved, well_duplicate, well_undeclared, well_plain, well_unknown, well_cedar_in_condition, well_cedar_in_value, well_value_as_condition, well_condition_as_value, well_count, well_stray_condition, well_stray_within, well_stray_slot, well_stray_field, well_stray_operand, well_binder_as_condition, well_unbound, well_not_a_condition, well_not_an_interval, well_not_a_term, well_not_an_identifier, well_macro_in_macro, well_budget, well_not_a_predicate}
@@ -39,9 +41,10 @@ pub silent : Well []
 unfolding open_utf8
 silent = tt
 
-pub whole_rules : (limit file : ℕ) → Rules Well Unasked Unasked WellText Well Any-number Any-number limit file
+pub whole_rules : (limit file : ℕ) → Rules in_01 Well Unasked Unasked WellText Well Any-number Any-number limit file
 whole_rules limit file =
     record {
+      within = includes in_01 substitution_numbers tt;
       closed = closed_texts Well (λ t k start. well_generated t k start file);
       charged = λ n h. tt;
       says_nothing = silent;
@@ -82,7 +85,7 @@ known_registry ds h = each_def ds (all_tail (known (flat_registry ds) h))
 -- ------------------------------------------------------------------ on trees
 
 abbrev pub WholeRefusal : Refusal → Type 0
-WholeRefusal r = RefusalMatches Well r
+WholeRefusal r = RefusalMatches in_01 Well r
 
 whole_params : (ps : List MacroParam) → All WholeEntry (flat_params ps) → All Well (names_of ps)
 unfolding flat_params names_of
@@ -95,18 +98,18 @@ whole_check def h =
     let names = whole_params def.params (all_left (flat_params def.params) _ (all_tail (all_tail (all_tail h)))) in
     given_body Well (names_of def.params)
     (record {
-      undeclared = λ n k s. (well_undeclared n k (names_of def.params) names, tt);
-      plain = λ n k s. (well_plain n k, tt);
-      called = λ s. (well_macro_in_macro, tt);
+      undeclared = λ n k s. (well_undeclared n k (names_of def.params) names, tabled tt);
+      plain = λ n k s. (well_plain n k, tabled tt);
+      called = λ s. (well_macro_in_macro, tabled tt);
     })
     def.body (all_map (λ e k. k.0) (def_body {P = WholeEntry} def h))
 
 pub whole_build : (ds : List MacroDef) → All WholeDef ds → Given WholeRefusal (build ds)
 whole_build ds h =
-    given_build Well (record { reserved = λ n k s. (well_reserved n k, tt); duplicate = λ n k s p. (well_duplicate n k _, tt) }) ds
+    given_build Well (record { reserved = λ n k s. (well_reserved n k, tabled tt); duplicate = λ n k s p. (well_duplicate n k _, tabled tt) }) ds
     (all_map (λ d k. (def_name {P = WholeEntry} d k).0) h)
 
-whole_outcome : {o : Outcome Tree} → Fits Well WellText Any-number (λ t. t) o → WholeOutcome o
+whole_outcome : {o : Outcome Tree} → Fits in_01 Well WellText Any-number (λ t. t) o → WholeOutcome o
 whole_outcome (good_done k) = whole_tree (whole_all k.1)
 whole_outcome (good_refused k) = whole_message k.0.0
 
@@ -127,7 +130,7 @@ substitute_whole limit file def call d c =
 pub expand_whole_lem : ExpandWhole
 expand_whole_lem limit file defs c d k =
     let ds = known_registry defs d in
-    whole_outcome (said_expand defs limit file (whole_rules limit file) ds (whole_build defs ds) c (known (flat_condition c) k))
+    whole_outcome (said_expand defs limit file (whole_rules limit file) (includes in_01 expansion_numbers tt) ds (whole_build defs ds) c (known (flat_condition c) k))
 
 -- ------------------------------------------------------------------ on tapes
 
@@ -194,7 +197,7 @@ abbrev pub Answered : Buffers → Outcome Tree → Type 0
 Answered b o = WholeAnswer b (answer tree_tape b o)
 
 abbrev pub WholeFits : Outcome Tree → Type 0
-WholeFits o = Fits Well WellText Any-number (λ t. t) o
+WholeFits o = Fits in_01 Well WellText Any-number (λ t. t) o
 
 -- the answer of an outcome, once the buffers are long enough
 pub answer_whole : (b : Buffers) {o : Outcome Tree} → WholeFits o → WholeAnswer b (answer tree_tape b o)
@@ -204,10 +207,10 @@ answer_whole b (good_done {a = t} {n = n} k) =
 answer_whole b (good_refused {r = r} {n = n} k) =
     record {
       whole_message = says_refused tree_tape b r n k.0.0;
-      whole_result = λ e. absurd (subst (λ (number : ℕ). T (in_table number)) e k.0.1);
+      whole_result = λ e. absurd (omega (arith, e, table_bounds k.0.1));
     }
 
-pub bare_whole : (b : Buffers) (number : ℕ) → T (in_table number) → WholeAnswer b (answer tree_tape b (number_alone number))
+pub bare_whole : (b : Buffers) (number : ℕ) → Tabled in_01 (refusal number 0 []) → WholeAnswer b (answer tree_tape b (number_alone number))
 unfolding number_alone
 bare_whole b number h = answer_whole b (good_refused ((silent, h), tt))
 
@@ -217,14 +220,14 @@ tree_whole b o h = go (long_buffers b)
   where
     go : (x : Bool) → WholeAnswer b (answer tree_tape b (elim x [ true ↦ o | false ↦ number_alone 1 ]))
     go true = h
-    go false = bare_whole b 1 tt
+    go false = bare_whole b 1 (tabled tt)
 
 pub substitute_tapes_whole : SubstituteTapesWhole
 unfolding substitute_answer substitute_tapes definition_root call_root
 substitute_tapes_whole b limit file definition input p q =
     tree_whole b _
-    (of_reading (Answered b) (read definition_root definition) _ (bare_whole b 2 tt) (bare_whole b 3 tt) λ def h.
-    of_reading (Answered b) (read call_root input) _ (bare_whole b 2 tt) (bare_whole b 3 tt) λ call k.
+    (of_reading (Answered b) (read definition_root definition) _ (bare_whole b 2 (tabled tt)) (bare_whole b 3 (tabled tt)) λ def h.
+    of_reading (Answered b) (read call_root input) _ (bare_whole b 2 (tabled tt)) (bare_whole b 3 (tabled tt)) λ call k.
     let d = known (flat_def def) (accepted_texts definition_root rewrites_definition lawful_definition definition p def h) in
     let c = known (flat_call call) (accepted_texts call_root rewrites_call lawful_call input q call k) in
     answer_whole b (said_substitute (whole_rules limit file) def d call c))
@@ -233,8 +236,8 @@ pub expand_tapes_whole : ExpandTapesWhole
 unfolding expand_answer expand_tapes registry_root condition_root
 expand_tapes_whole b limit file registry input p q =
     tree_whole b _
-    (of_reading (Answered b) (read registry_root registry) _ (bare_whole b 2 tt) (bare_whole b 3 tt) λ defs h.
-    of_reading (Answered b) (read condition_root input) _ (bare_whole b 2 tt) (bare_whole b 3 tt) λ condition k.
+    (of_reading (Answered b) (read registry_root registry) _ (bare_whole b 2 (tabled tt)) (bare_whole b 3 (tabled tt)) λ defs h.
+    of_reading (Answered b) (read condition_root input) _ (bare_whole b 2 (tabled tt)) (bare_whole b 3 (tabled tt)) λ condition k.
     let ds = known_registry defs (accepted_texts registry_root rewrites_registry lawful_registry registry p defs h) in
     let c = known (flat_condition condition) (accepted_texts condition_root rewrites_condition lawful_condition input q condition k) in
-    answer_whole b (said_expand defs limit file (whole_rules limit file) ds (whole_build defs ds) condition c))
+    answer_whole b (said_expand defs limit file (whole_rules limit file) (includes in_01 expansion_numbers tt) ds (whole_build defs ds) condition c))

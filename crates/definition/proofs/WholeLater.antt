@@ -28,6 +28,8 @@ use Rattle.definition.specs.Whole.{WholeMessage, PreviewWhole, LibraryWhole, Che
 use Rattle.definition.proofs.Good.{good_done, good_refused}
 use Rattle.definition.proofs.Readings.{of_reading}
 use Rattle.definition.proofs.Verdicts.{Given, passes, refuses}
+use Rattle.definition.specs.Ends.{expansion_numbers}
+use Rattle.definition.proofs.Rules.{in_01, includes, tabled}
 use Rattle.definition.proofs.SaidExpand.{said_expand}
 use Rattle.definition.proofs.Library.{found_at}
 use Rattle.definition.proofs.Preview.{previews}
@@ -118,10 +120,10 @@ pub judge_whole : JudgeWhole
 unfolding judge_answer judge_tapes judge condition_root
 judge_whole b limit file registry input supplied p q =
     tree_whole b _
-    (of_reading (Answered b) (read registry_root registry) _ (bare_whole b 2 tt) (bare_whole b 3 tt) λ defs h.
-    of_reading (Answered b) (read condition_root input) _ (bare_whole b 2 tt) (bare_whole b 3 tt) λ condition k.
-    of_reading (Answered b) (read (named_root (longest_name file)) supplied) _ (bare_whole b 2 tt) (bare_whole b 3 tt) λ theirs l.
+    (of_reading (Answered b) (read registry_root registry) _ (bare_whole b 2 (tabled tt)) (bare_whole b 3 (tabled tt)) λ defs h.
+    of_reading (Answered b) (read condition_root input) _ (bare_whole b 2 (tabled tt)) (bare_whole b 3 (tabled tt)) λ condition k.
+    of_reading (Answered b) (read (named_root (longest_name file)) supplied) _ (bare_whole b 2 (tabled tt)) (bare_whole b 3 (tabled tt)) λ theirs l.
     let ds = whole_registry registry p defs h in
     let c = known (flat_condition condition) (accepted_texts condition_root rewrites_condition lawful_condition input q condition k) in
     judged_whole b (λ t. same_but_names (protected_names defs condition) [] (flat_tree t) (flat_condition theirs))
-    (said_expand defs limit file (whole_rules limit file) ds (whole_build defs ds) condition c))
+    (said_expand defs limit file (whole_rules limit file) (includes in_01 expansion_numbers tt) ds (whole_build defs ds) condition c))

@@ -6,7 +6,7 @@ use native.Mathlib.Omega.{arith}
 use mathlib.Core.Path.{◌≡◌, refl, ap, subst}
 use mathlib.Core.List.{List, [], ◌∷◌}
 use mathlib.Core.Bool.{Bool, true, false}
-use lib.Dec.{T, eqb}
+use lib.Dec.{eqb}
 use Rattle.format.specs.Entry.{Entry, entry, encode}
 use Rattle.format.specs.Ast.{Tree, MacroDef}
 use Rattle.format.specs.Flat.{flat_condition, flat_tree, flat_def, flat_registry}
@@ -31,7 +31,7 @@ use Rattle.definition.proofs.Readings.{of_reading}
 use Rattle.definition.proofs.Good.{good_done, good_refused}
 use Rattle.definition.proofs.SameVerdicts.{same_check, same_build}
 use Rattle.definition.proofs.Verdicts.{Any}
-use Rattle.definition.proofs.Rules.{Closed, Unasked, in_table, Bears}
+use Rattle.definition.proofs.Rules.{Closed, Unasked, tabled, table_bounds, Bears}
 use Rattle.definition.proofs.Borne.{substitute_bears, expand_bears, all_unasked}
 
 -- ------------------------------------------------------------------ check and registry, from the tape as it is given
@@ -121,18 +121,18 @@ tree_no_or b {o} g = go (long_buffers b)
 
     made : {p : Outcome Tree} → NoOrTree p → NoOrResult b (answer tape b p)
     made (good_done {a = t} h) e = (t, refl, no_holds h)
-    made (good_refused {r = r} t) e = absurd (subst (λ (k : ℕ). T (in_table k)) e t)
+    made (good_refused {r = r} t) e = absurd (omega (arith, e, table_bounds t))
 
     go : (long : Bool) → NoOrResult b (answer tape b (elim long [ true ↦ o | false ↦ number_alone 1 ]))
     go true = made g
-    go false = made {p = number_alone 1} (good_refused tt)
+    go false = made {p = number_alone 1} (good_refused (tabled tt))
 
 -- a tape that is read: 2, 3, or a tree without Or
 read_carries : {A : Type 0} (root : Root A) → Rewrites root → (bytes : List ℕ) (k : A → Outcome Tree)
     → ((a : A) → All NoOrEntry (root.flat a) → NoOrTree (k a)) → NoOrTree (reading (read root bytes) k)
 unfolding number_alone
 read_carries root r bytes k f =
-    of_reading (λ (o : Outcome Tree). NoOrTree o) (read root bytes) k (good_refused tt) (good_refused tt) λ a e. f a (read_no_or root r bytes a e)
+    of_reading (λ (o : Outcome Tree). NoOrTree o) (read root bytes) k (good_refused (tabled tt)) (good_refused (tabled tt)) λ a e. f a (read_no_or root r bytes a e)
 
 pub substitute_result_no_or : SubstituteResultNoOr
 unfolding substitute_answer substitute_tapes definition_root call_root

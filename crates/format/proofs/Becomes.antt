@@ -1,6 +1,6 @@
--- What the entries of a tree become when every Or is rewritten: a 2 becomes 3, 1, 3 in front of its left side and 3 in front of its
--- right one, and every other entry stays. What holds of the rewritten entries is shown here once, and not of each kind of tree. The
--- two sides are said to be conditions, so that whoever rewrites a tape can find where the left one ends.
+-- What the entries of a tree become when every Or is rewritten (`Becomes`, specs/DeMorgan.antt), and what holds of the rewritten ones,
+-- shown here once and not of each kind of tree. The two sides of an Or are said to be conditions, so that whoever rewrites a tape can
+-- find where the left one ends.
 -- Assumes nothing.
 use Prim.Native.Nat.{ℕ, ◌+◌, ◌*◌}
 use native.Mathlib.Omega.{arith}
@@ -17,18 +17,12 @@ use Rattle.format.specs.Limits.{weigh}
 use Rattle.format.specs.Tape.{texts_within}
 use Rattle.format.specs.Replace.{replace_condition, replace_term, replace_agg, replace_call, replace_arg, replace_args, replace_fields, replace_terms, replace_tree, replace_body, replace_def, replace_defs}
 use Rattle.format.specs.DeMorgan.{de_morgan}
+pub use Rattle.format.specs.DeMorgan.{Becomes, nothing, kept, joined, parted}
 use Rattle.format.proofs.All.{All, all_nil, all_cons, all_head, all_tail, all_append, all_left, all_right}
 use Rattle.format.proofs.Tests.{is_true}
 use Rattle.format.proofs.Counts.{length_args_lem, length_fields_lem, length_terms_lem, length_defs}
 use Rattle.format.proofs.Stands.{text_append}
 use Rattle.format.proofs.Parts.{Later, Part, part_texts, later_interval, later_within, part_slot, part_binder, part_binders, part_sigil, part_params, later, later_no_or}
-
-pub data Becomes : List Entry → List Entry → Type 0 where
-  nothing : Becomes [] []
-  kept : {e : Entry} {es fs : List Entry} → eqb e.code 2 ≡ false → Becomes es fs → Becomes (e ∷ es) (e ∷ fs)
-  joined : {es fs es' fs' : List Entry} → Becomes es fs → Becomes es' fs' → Becomes (es ++ es') (fs ++ fs')
-  parted : {s : ℕ} (l r : Condition) {l' r' : List Entry} → Becomes (flat_condition l) l' → Becomes (flat_condition r) r'
-      → Becomes (entry 2 s ∷ (flat_condition l ++ flat_condition r)) (entry 3 s ∷ entry 1 s ∷ entry 3 s ∷ (l' ++ entry 3 s ∷ r'))
 
 -- ------------------------------------------------------------------ trees
 

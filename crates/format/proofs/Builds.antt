@@ -19,7 +19,7 @@ use Rattle.format.proofs.All.{All, all_nil, all_cons, all_append}
 eqb_self : (n : ℕ) → eqb n n ≡ true
 eqb_self n = eq-eqb n n refl
 
-build_append : (start : Option Stack) (es fs : List Entry) → build_on start (es ++ fs) ≡ build_on (build_on start fs) es
+pub build_append : (start : Option Stack) (es fs : List Entry) → build_on start (es ++ fs) ≡ build_on (build_on start fs) es
 unfolding build_on
 build_append start [] fs = refl
 build_append start (e ∷ es) fs = ap (push_on e) (build_append start es fs)
@@ -312,7 +312,7 @@ mutual
       no_value texted guard give ◌>>=◌ onward pop_condition pop_term pop as_condition as_term as_agg as_call only field_items term_items
       arg_items args_items pop_texts nth arith_ops flat_arith flat_bool
 
-  builds_condition : (c : Condition) (st : Stack) → build_on (some st) (flat_condition c) ≡ some (Item.condition c ∷ st)
+  pub builds_condition : (c : Condition) (st : Stack) → build_on (some st) (flat_condition c) ≡ some (Item.condition c ∷ st)
   builds_condition (Condition.And s l r) st =
       rw (
         build_append (some st) (flat_condition l) (flat_condition r),

@@ -20,7 +20,7 @@ use Rattle.definition.specs.Text.{eq_text}
 use Rattle.definition.specs.Registry.{get}
 use Rattle.definition.specs.Merge.{is_spanned, unless_span, erase_span, erase_spans, eq_entries, agrees}
 use Rattle.definition.proofs.Texts.{text_equal}
-use Rattle.message_parts.proofs.Order.{eq_refl}
+use Rattle.definition.proofs.Order.{eq_refl}
 use Rattle.tape.specs.Pick.{pick}
 use Rattle.tape.specs.declared.layout.Layout.{Layout}
 use Rattle.tape.specs.declared.layout.Place.{Place}

@@ -1,29 +1,19 @@
--- The declared names in byte order, each once: the least name above the last one is the next.
+-- The declared names in byte order, each once (definition's specs/Declared.antt): the least name above the last one is the next.
 -- Assumes nothing.
 use mathlib.Core.Path.{◌≡◌, refl, sym, ap, subst, ◌∙◌}
+use mathlib.Core.List.Memᴰ
 use mathlib.Core.List.{List, [], ◌∷◌, nil≢cons}
 use mathlib.Core.Bool.{true, false}
 use mathlib.Core.Option.{Option, none, some, none-ne-some, some-ne-none, some-injective}
 use Rattle.format.specs.Entry.{Text}
+use Rattle.format.specs.Names.{◌∈◌}
 use Rattle.definition.specs.Text.{lt_text}
 use Rattle.definition.specs.Messages.{insert_text, sort_texts}
+use Rattle.definition.specs.Declared.{Before, Ascends}
+use Rattle.definition.proofs.Order.{Ordered, before, same, after, order, lt_trans, lt_irrefl, lt_asym, before_lt}
+use Rattle.definition.proofs.Declared.{insert_before, insert_same, insert_after, sort_ascends}
 use Rattle.buffer.proofs.Decides.{both, cases}
 use Rattle.message_parts.specs.Names.{above, below, lower, least_in, all_above, rest}
-use Rattle.message_parts.proofs.Order.{Ordered, before, same, after, order, lt_trans, lt_irrefl, lt_asym, eq_refl, eq_after}
-
--- ------------------------------------------------------------------ a name's place in a list
-
-insert_before : (t u : Text) (us : List Text) → lt_text t u ≡ true → insert_text t (u ∷ us) ≡ t ∷ u ∷ us
-unfolding insert_text
-insert_before t u us h = rw (h, insert_text)
-
-insert_same : (t : Text) (us : List Text) → insert_text t (t ∷ us) ≡ t ∷ us
-unfolding insert_text
-insert_same t us = rw (lt_irrefl t, eq_refl t, insert_text)
-
-insert_after : (t u : Text) (us : List Text) → lt_text u t ≡ true → insert_text t (u ∷ us) ≡ u ∷ insert_text t us
-unfolding insert_text
-insert_after t u us h = rw (lt_asym u t h, eq_after t u h, insert_text)
 
 -- ------------------------------------------------------------------ those above a floor
 
@@ -112,51 +102,15 @@ module _ (f : Option Text) where
 
 -- ------------------------------------------------------------------ ascending lists
 
-data AllAfter (t : Text) : List Text → Type 0 where
-  no_more : AllAfter t []
-  one_more : {u : Text} {us : List Text} → lt_text t u ≡ true → AllAfter t us → AllAfter t (u ∷ us)
-
-data Ascends : List Text → Type 0 where
-  empty : Ascends []
-  starts : {t : Text} {ts : List Text} → AllAfter t ts → Ascends ts → Ascends (t ∷ ts)
-
-weaken : {t u : Text} {us : List Text} → lt_text t u ≡ true → AllAfter u us → AllAfter t us
-weaken h no_more = no_more
-weaken {t} {u} h (one_more {u = x} k a) = one_more (lt_trans t u x h k) (weaken h a)
-
-insert_all : {x : Text} (t : Text) {us : List Text} → lt_text x t ≡ true → AllAfter x us → AllAfter x (insert_text t us)
-unfolding insert_text
-insert_all t h no_more = one_more h no_more
-insert_all {x} t h (one_more {u = u} {us = us} k a) = go (order t u) (insert_all t h a)
-  where
-    go : Ordered t u → AllAfter x (insert_text t us) → AllAfter x (insert_text t (u ∷ us))
-    go (before o) ih = rw (insert_before t u us o) (one_more h (one_more k a))
-    go (same e) ih = rw (e, insert_same u us) (one_more k a)
-    go (after o) ih = rw (insert_after t u us o) (one_more k ih)
-
-insert_ascends : (t : Text) {us : List Text} → Ascends us → Ascends (insert_text t us)
-unfolding insert_text
-insert_ascends t empty = starts no_more empty
-insert_ascends t (starts {t = u} {ts = us} a s) = go (order t u) (insert_ascends t s)
-  where
-    go : Ordered t u → Ascends (insert_text t us) → Ascends (insert_text t (u ∷ us))
-    go (before o) ih = rw (insert_before t u us o) (starts (one_more o (weaken o a)) (starts a s))
-    go (same e) ih = rw (e, insert_same u us) (starts a s)
-    go (after o) ih = rw (insert_after t u us o) (starts (insert_all t o a) ih)
-
-sort_ascends : (ts : List Text) → Ascends (sort_texts ts)
-unfolding sort_texts
-sort_ascends [] = empty
-sort_ascends (t ∷ ts) = insert_ascends t (sort_ascends ts)
-
-above_all : {t : Text} {us : List Text} → AllAfter t us → all_above (some t) us ≡ us
+above_all : (t : Text) (us : List Text) → ((u : Text) → u ∈ us → Before t u) → all_above (some t) us ≡ us
 unfolding all_above
-above_all no_more = refl
-above_all {t} (one_more {u = u} {us = us} h a) = above_keep (some t) u us h ∙ ap (◌∷◌ u) (above_all a)
+above_all t [] h = refl
+above_all t (u ∷ us) h =
+    above_keep (some t) u us (before_lt (h u (Memᴰ.head refl))) ∙ ap (◌∷◌ u) (above_all t us (λ x m. h x (Memᴰ.tail m)))
 
 -- those above the first are the others
 above_first : {t : Text} {ts : List Text} → Ascends (t ∷ ts) → all_above (some t) (t ∷ ts) ≡ ts
-above_first (starts {t = t} {ts = ts} a s) = above_skip (some t) t ts (lt_irrefl t) ∙ above_all a
+above_first (Ascends.starts {t = t} {ts = ts} a s) = above_skip (some t) t ts (lt_irrefl t) ∙ above_all t ts a
 
 -- ------------------------------------------------------------------ the least name
 

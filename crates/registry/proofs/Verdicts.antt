@@ -26,7 +26,7 @@ use Rattle.nodes.specs.declared.Heading.{Heading}
 use Rattle.nodes.proofs.Placed.{parts_def}
 use Rattle.messages.specs.Reason.{refused_at, message_of}
 use Rattle.messages.specs.declared.Reason.TheVariants.{Reserved}
-use Rattle.message_parts.proofs.Order.{eq_refl}
+use Rattle.definition.proofs.Order.{eq_refl}
 use Rattle.answer.specs.Matches.{VerdictMatches}
 use Rattle.registry.specs.Places.{duplicate_of, and_then_in, check_at, build_from_at, build_at}
 use Rattle.nodes.specs.declared.Definition.{Definition}

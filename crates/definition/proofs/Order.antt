@@ -1,15 +1,26 @@
--- Byte order on texts: of two texts one comes before the other, or they are equal.
+-- Byte order on texts: of two texts one comes before the other, or they are equal; and it is the order of specs/Declared.antt.
 -- Assumes nothing.
-use Prim.Native.Nat.{ℕ, ◌<◌}
+use Prim.Native.Nat.{ℕ, ◌≤◌, ◌<◌}
 use native.Mathlib.Omega.{arith}
 use mathlib.Core.Path.{◌≡◌, refl, sym, ap, ◌∙◌}
 use mathlib.Core.List.{[], ◌∷◌}
-use mathlib.Core.Bool.{true, false}
+use mathlib.Core.Bool.{Bool, true, false}
 use mathlib.Core.Logic.{◌⊎◌, inl, inr, ⊎_elim}
-use borrow.Author.Tests.{lt-ltb, le-ltb, eq-eqb, ne_eqb}
+use borrow.Author.Tests.{lt-ltb, le-ltb, eq-eqb, ne_eqb, leb-true, leb-false}
+use lib.Dec.{leb}
 use Rattle.format.specs.Entry.{Text}
 use Rattle.definition.specs.Text.{eq_text, lt_text}
-use Rattle.buffer.proofs.Decides.{both, cases, le_or}
+use Rattle.definition.specs.Declared.{Before}
+
+both : {b : Bool} → b ≡ true → b ≡ false → ⊥
+both p q = let z : ◌≡◌ {A = ℕ} 0 1 = cc in omega arith
+
+cases : (b : Bool) {A : Type 0} → (b ≡ true → A) → (b ≡ false → A) → A
+cases true t f = t refl
+cases false t f = f refl
+
+le_or : (a b : ℕ) {A : Type 0} → (a ≤ b → A) → (b < a → A) → A
+le_or a b t f = cases (leb a b) (λ e. t (leb-true a b e)) (λ e. f (leb-false a b e))
 
 -- ------------------------------------------------------------------ by the first bytes
 
@@ -86,3 +97,17 @@ eq_after [] b h = absurd (both h refl)
 eq_after (x ∷ s) [] h = refl
 eq_after (x ∷ s) (y ∷ t) h =
     ⊎_elim (λ p. rw (ne_eqb x y (λ e. omega arith))) (λ p. rw (p.0, eq-eqb x x refl) (eq_after s t p.1)) (lt_split y x t s h)
+
+-- ------------------------------------------------------------------ in the words of the paper
+
+pub lt_before : (s t : Text) → lt_text s t ≡ true → Before s t
+unfolding lt_text
+lt_before s [] h = absurd (both h refl)
+lt_before [] (b ∷ t) h = Before.ends
+lt_before (a ∷ s) (b ∷ t) h = ⊎_elim Before.lower (λ p. rw (p.0) (Before.behind (lt_before s t p.1))) (lt_split a b s t h)
+
+pub before_lt : {s t : Text} → Before s t → lt_text s t ≡ true
+unfolding lt_text
+before_lt Before.ends = refl
+before_lt (Before.lower {a} {b} {s} {t} h) = lt_first a b s t h
+before_lt (Before.behind {a} {s} {t} b) = lt_later a s t ∙ before_lt b
