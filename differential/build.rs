@@ -1,5 +1,5 @@
 //! Links the archive that NEUKOLJA_ARCHIVE names, if it names one, and says which operations it has: `cfg(archive_has = "check")`
-//! and so on. Without it the model alone is compared with upstream.
+//! and so on. Without it, or with `none`, the model alone is compared with upstream.
 
 use std::path::Path;
 
@@ -14,14 +14,18 @@ fn main() {
     println!("cargo::rerun-if-env-changed=NEUKOLJA_ARCHIVE");
     println!("cargo::rustc-check-cfg=cfg(archive)");
     println!("cargo::rustc-check-cfg=cfg(archive_has, values({}))", OPERATIONS.map(|o| format!("{o:?}")).join(", "));
-    let Ok(archive) = std::env::var("NEUKOLJA_ARCHIVE") else { return };
-    let archive = Path::new(&archive).canonicalize().unwrap_or_else(|e| panic!("NEUKOLJA_ARCHIVE is {archive}: {e}"));
+    let named = std::env::var("NEUKOLJA_ARCHIVE").unwrap_or_default();
+    if ["", "none"].contains(&&named[..]) {
+        return;
+    }
+    let archive = Path::new(&named).canonicalize().unwrap_or_else(|e| panic!("NEUKOLJA_ARCHIVE is {named}: {e}"));
     let folder = archive.parent().expect("a file is in a folder");
     assert!(archive.ends_with("libneukolja.a"), "the archive's name is libneukolja.a");
     println!("cargo::rerun-if-changed={}", archive.display());
     println!("cargo::rustc-link-search=native={}", folder.display());
     println!("cargo::rustc-link-lib=static=neukolja");
     println!("cargo::rustc-cfg=archive");
+    println!("cargo::rustc-env=ARCHIVE_LINKED={}", archive.display());
     let index = index(&std::fs::read(&archive).expect("the archive can be read"));
     for name in OPERATIONS.into_iter().filter(|name| index.contains(&format!("neukolja_{name}"))) {
         println!("cargo::rustc-cfg=archive_has={name:?}");

@@ -2,6 +2,9 @@
 
 use crate::compare::Machine;
 
+/// The archive that was linked, if one was.
+pub const LINKED: Option<&str> = option_env!("ARCHIVE_LINKED");
+
 #[cfg(not(archive))]
 pub fn linked() -> Option<Box<dyn Machine>> {
     None

@@ -20,6 +20,7 @@ pub mod provider;
 pub mod random;
 pub mod record;
 pub mod sheet;
+mod shown;
 pub mod tally;
 pub mod tape;
 pub mod texts;

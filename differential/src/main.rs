@@ -171,7 +171,8 @@ fn edges(point: u64, mut machines: Vec<Box<dyn Machine>>) -> bool {
 }
 
 fn record(path: &str, seed: u64, cases: u64, only: &[Operation]) -> Result<bool, String> {
-    let list = record::record(seed, cases, only)?;
+    let list = record::record(seed, cases, only, &mut |_| ())?;
+    let list: Vec<_> = list.into_iter().map(|recorded| (recorded.case, recorded.answer)).collect();
     let bytes = vectors::write(&list);
     std::fs::write(path, &bytes).map_err(|e| format!("{path}: {e}"))?;
     println!("{} vectors, {} bytes", list.len(), bytes.len());

@@ -7,15 +7,16 @@ use crate::generate;
 use crate::judge;
 use crate::model::{self, Notes};
 use crate::places::{self, Place};
+use crate::shown;
 use crate::tally;
 use crate::tape::{
     self, LARGEST, LARGEST_CALLS, LARGEST_LITERAL, LARGEST_PARAMETERS, LARGEST_TEXT, Measure, Node, Sort, Unread,
 };
 use std::collections::{BTreeMap, BTreeSet};
 
-/// Something that a case shows.
+/// Something that a case shows. `shown` has the words.
 #[derive(Clone, Debug, PartialEq, Eq, PartialOrd, Ord)]
-enum Shows {
+pub(crate) enum Shows {
     /// A number, with the code that was refused and the code that was found there.
     Number(u64, u8, u8),
     /// Why 1, 2 or 3.
@@ -161,32 +162,54 @@ impl Candidate {
         let counts = counts(&self.case.counts) + counts(&self.answer.counts);
         FRAME + self.case.bytes() + self.answer.result.len() + self.answer.message.len() + counts
     }
+
+    /// As a case of the list. What it shows is shown from here on.
+    fn recorded(mut self, shown: &mut BTreeSet<(u8, Shows)>) -> Recorded {
+        self.shows.retain(|shows| shown.insert(shows.clone()));
+        let shows: Vec<Shows> = self.shows.into_iter().map(|(_, shows)| shows).collect();
+        Recorded { case: self.case, answer: self.answer, shows: shown::words(&shows) }
+    }
+}
+
+/// A case of the list.
+pub struct Recorded {
+    pub case: Case,
+    pub answer: Answer,
+    /// What it shows that none before it does, in words.
+    pub shows: Vec<String>,
 }
 
 /// The bench cases and the order in a Since, and behind them cases from the seed until everything that any of them shows is shown.
 /// So many cases are looked through, those of these operations taken; more of them give a smaller list that shows more, slowly.
-pub fn record(seed: u64, cases: u64, only: &[Operation]) -> Result<Vec<(Case, Answer)>, String> {
+/// `watch` hears how many have been looked through.
+pub fn record(seed: u64, cases: u64, only: &[Operation], watch: &mut dyn FnMut(u64)) -> Result<Vec<Recorded>, String> {
+    let (mut shown, mut list) = (BTreeSet::new(), Vec::new());
     let first = bench_cases::cases().into_iter().chain(bench_cases::orders());
-    let mut chosen = first.map(Candidate::new).collect::<Result<Vec<_>, _>>()?;
-    let mut left = smallest(seed, cases, only)?;
+    for candidate in first.map(Candidate::new) {
+        list.push(candidate?.recorded(&mut shown));
+    }
+    let mut left = smallest(seed, cases, only, watch)?;
     loop {
-        let shown: BTreeSet<_> = chosen.iter().flat_map(|c| c.shows.iter().cloned()).collect();
         left.iter_mut().for_each(|c| c.shows.retain(|s| !shown.contains(s)));
         left.retain(|c| !c.shows.is_empty());
         // the most that is new for its bytes
         let worth = |c: &Candidate| c.shows.len() * (1 << 32) / c.cost();
         let Some(best) = (0..left.len()).max_by_key(|i| worth(&left[*i])) else { break };
-        chosen.push(left.swap_remove(best));
+        list.push(left.swap_remove(best).recorded(&mut shown));
     }
-    Ok(chosen.into_iter().map(|c| (c.case, c.answer)).collect())
+    Ok(list)
 }
 
 /// For each thing that can be shown the smallest cases that show it.
-fn smallest(seed: u64, cases: u64, only: &[Operation]) -> Result<Vec<Candidate>, String> {
+fn smallest(seed: u64, cases: u64, only: &[Operation], watch: &mut dyn FnMut(u64)) -> Result<Vec<Candidate>, String> {
     let mut least: BTreeMap<(u8, Shows), Vec<(usize, u64)>> = BTreeMap::new();
     // The program that replays the list cannot run another.
     let only: Vec<_> = only.iter().copied().filter(|operation| *operation != Operation::Sheet).collect();
-    for index in (0..cases).filter(|index| only.contains(&generate::operation(seed, *index))) {
+    for index in 0..cases {
+        watch(index);
+        if !only.contains(&generate::operation(seed, index)) {
+            continue;
+        }
         let candidate = Candidate::new(generate::case(seed, index))?;
         for shows in &candidate.shows {
             let of = least.entry(shows.clone()).or_default();

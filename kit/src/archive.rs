@@ -4,6 +4,7 @@
 //! lacks is answered by the model of `differential`, if that knows the operation, and then the output says so.
 
 use crate::response::Response;
+pub use differential::archive::LINKED;
 use differential::case::{Case, OPERATIONS, Operation};
 use differential::compare::{Lent, Machine};
 use differential::{archive, model};

@@ -1,19 +1,26 @@
 //! The pairing kit. See README.md.
 
-/// Prints a line. A reader that has gone, as `head` does, is no mistake of ours.
+/// Prints a line.
 #[macro_export]
 macro_rules! say {
-    ($($words:tt)*) => {{
-        use std::io::Write as _;
-        let _ = writeln!(std::io::stdout(), $($words)*);
-    }};
+    ($($words:tt)*) => { $crate::output::line(format_args!($($words)*)) };
+}
+
+/// Prints a line to standard error: what is said of an answer and is no part of it.
+#[macro_export]
+macro_rules! note {
+    ($($words:tt)*) => { $crate::output::note(format_args!($($words)*)) };
 }
 
 pub mod archive;
 pub mod commands;
 pub mod corpus;
+pub mod figures;
+pub mod json;
+pub mod nearest;
 pub mod notation;
 pub mod numbers;
+pub mod output;
 pub mod pair;
 pub mod protocol;
 pub mod reading;

@@ -9,7 +9,10 @@ use std::io::{self, Read};
 pub const HELLO: u8 = 0;
 
 /// Longer frames are garbage: a request holds at most three tapes, or one sheet.
-const LONGEST_FRAME: usize = 1 << 20;
+pub const LONGEST_FRAME: usize = 1 << 20;
+
+/// No operation takes a tape that is as long as this: the longest that is accepted has 12,296 bytes.
+const LONGEST_TAPE: usize = 1 << 16;
 
 /// A frame as it goes over a pipe: its length and its bytes.
 fn framed(body: &[u8]) -> Vec<u8> {
@@ -58,6 +61,25 @@ pub fn response(id: u32, response: &Response) -> Vec<u8> {
     put_bytes(&mut body, &response.message);
     put_bytes(&mut body, &counts_bytes(&response.counts));
     framed(&body)
+}
+
+/// Whether the request is no longer than a frame may be.
+pub fn fits(case: &Case) -> bool {
+    let is_short = case.bytes() < LONGEST_FRAME / 2;
+    is_short || request(0, case).len() <= 4 + LONGEST_FRAME
+}
+
+/// The case with long tapes cut off, if otherwise no frame has room for it; none if there is nothing to cut, as of a sheet.
+/// Such a tape is refused for its sizes, if these are over the largest figures, and otherwise for its length, which is
+/// another than they say. It has both sizes still and is as long as that, so the number is the one of the whole tape.
+pub fn cut_to_fit(mut case: Case) -> Option<Case> {
+    if fits(&case) {
+        return Some(case);
+    }
+    if case.operation != Operation::Sheet {
+        case.tapes.iter_mut().for_each(|tape| tape.truncate(LONGEST_TAPE));
+    }
+    fits(&case).then_some(case)
 }
 
 fn put_bytes(out: &mut Vec<u8>, bytes: &[u8]) {
@@ -185,6 +207,26 @@ mod tests {
             let body = read_frame(&mut pipe).expect("a frame").expect("a frame");
             assert!(read_response(&body) == Ok((7, answer)));
         }
+    }
+
+    /// The generator now and then makes a tree of a hundred thousand entries.
+    #[test]
+    fn no_request_is_too_long() {
+        let case = generate::case(20261127, 1174170);
+        assert!(!fits(&case) && case.tapes.iter().any(|tape| tape.len() > LONGEST_FRAME));
+        let cut = cut_to_fit(case.clone()).expect("it can be cut");
+        let body = request(1, &cut);
+        assert!(read_frame(&mut &body[..]).expect("a frame").is_some());
+        assert!(archive::by_model(&cut) == archive::by_model(&case));
+        // One whose sizes are small is refused with 2, cut or whole.
+        let mut case = Case::new(Operation::Profile, 0, vec![vec![0; LONGEST_FRAME]]);
+        assert!(!fits(&case));
+        let cut = cut_to_fit(case.clone()).expect("it can be cut");
+        assert!(archive::by_model(&cut) == archive::by_model(&case) && archive::by_model(&case).number() == 2);
+        case.operation = Operation::Sheet;
+        assert!(cut_to_fit(case).is_none());
+        let usual = generate::case(1, 7);
+        assert!(cut_to_fit(usual.clone()) == Some(usual));
     }
 
     #[test]

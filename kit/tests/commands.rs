@@ -2,9 +2,11 @@
 
 use std::process::{Command, Output};
 
+/// As `../neukolja` runs it, which has said what answers: the exit status, and what was printed.
 fn kit(words: &[&str]) -> (i32, String) {
+    let mut command = Command::new(env!("CARGO_BIN_EXE_kit"));
     let Output { status, stdout, stderr } =
-        Command::new(env!("CARGO_BIN_EXE_kit")).args(words).output().expect("the kit runs");
+        command.args(words).env("NEUKOLJA_SAID", "yes").output().expect("the kit runs");
     let text = [stdout, stderr].map(|bytes| String::from_utf8_lossy(&bytes).to_string()).concat();
     (status.code().expect("an exit status"), text)
 }
@@ -25,7 +27,7 @@ fn the_lockout_rules_are_expanded() {
     let expanded = "Head::\"boost\"::request{room: \"Küche\"} && !formerly 1h Window::\"open\"::event{room: \"Küche\"}";
     assert!(text.contains(expanded), "{text}");
     let (status, text) = kit(&["check", LOCKOUT]);
-    assert!(status == 0 && text.ends_with("5 macros, 0 mistakes\n"), "{text}");
+    assert!(status == 0 && text.ends_with("5 macros, 5 rules, 0 mistakes\n"), "{text}");
 }
 
 #[test]
@@ -33,7 +35,7 @@ fn refusals_point_into_the_text() {
     let path = file("bad.rules", "late(d) = formerly ?e P{}\nplain(x) = P{f: x}\nrule r: late(1h) && nope()\n");
     let (status, text) = kit(&["check", &path]);
     assert!(
-        status == 1 && text.contains("bad.rules:1:11: refused with 20") && text.contains("bad.rules:2:12:"),
+        status == 1 && text.contains("bad.rules:1:20: refused with 20") && text.contains("bad.rules:2:17:"),
         "{text}"
     );
     let (status, text) = kit(&["expand", &path]);

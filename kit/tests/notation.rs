@@ -148,3 +148,47 @@ fn mistakes_say_where_and_what_was_expected() {
     is("rule: 5 == ", 11, "expected a condition or a term, found the end");
     is("rule: (1 + 2)@1..2 == 3", 13, "expected no span: of the terms only aggregates have one");
 }
+
+/// The mistakes of a text, and how much of the rest is read: definitions, rules, and names of macros that are not.
+#[test]
+fn behind_a_mistake_it_is_read_on() {
+    let read = |text: &str| {
+        let reading = notation::read(text);
+        let starts: Vec<usize> = reading.mistakes.iter().map(|mistake| mistake.start).collect();
+        let document = reading.document;
+        (starts, document.definitions.len(), document.rules.len(), reading.unread.concat())
+    };
+    let is = |text: &str, starts: &[usize], definitions, rules, unread: &str| {
+        let wanted = (starts.to_vec(), definitions, rules, unread.as_bytes().to_vec());
+        assert_eq!(read(text), wanted, "{text}");
+    };
+    is("m(x) = tp(?x)\nrule a: m(q)", &[], 1, 1, "");
+    // A head that is wrong, and one behind it that is right or wrong too.
+    is("m(x = tp(?x)\nk(y) = tp(?y)", &[4], 1, 0, "m");
+    is("m(x = tp(?x)\nk(y = tp(?y)\nrule a: tp(q)", &[4, 17], 0, 1, "mk");
+    // What lacks its end does not swallow the next item.
+    is("m(x) = P{f: ?x\nk(y) = tp(?y)", &[14], 1, 0, "m");
+    is("m(x) = tp(?x) &&\nk(y) = tp(?y)", &[16], 1, 0, "m");
+    is("rule a: (tp(q)\nrule b: tp(q)", &[14], 0, 1, "");
+    is("rule a: P{f: \"x}\nrule b: tp(q)", &[13], 0, 1, "");
+    // What cannot begin is the rest of what stands before it.
+    is("rule a: tp(q) adn tp(r)\nrule b: tp(q)", &[14], 0, 1, "");
+    is("m() = tp(q) = 5 rule b: tp(q)", &[12], 0, 1, "m");
+    is("rule a: tp(q)\n) rule b: tp(q)", &[14], 0, 2, "");
+}
+
+/// Every entry has the place in the text that it was read from.
+#[test]
+fn entries_have_places() {
+    let text = "m(x, yy) = P{a.b: ?x, c: [1; 2]} && (count for q: A::B where tp(q)) < -5";
+    let document = notation::read(text).document;
+    let mut places = Vec::new();
+    document.placed.definitions[0].visit(&mut |node| places.push((node.code, &text[node.place.start..node.place.end])));
+    let of = |code: u8| places.iter().filter(|(other, _)| *other == code).map(|(_, text)| *text).collect::<Vec<_>>();
+    assert_eq!(of(60), [text]);
+    assert_eq!(of(40), ["m", "x", "yy", "P", "P", "a.b", "c", "A", "B"]);
+    assert_eq!(of(32), ["?x"]);
+    assert_eq!(of(21), ["1", "1", "-5"]);
+    assert_eq!(of(29), ["[1; 2]"]);
+    assert_eq!((of(47), of(43), of(53)), (vec!["A::B"], vec!["q", "q"], vec!["<"]));
+}

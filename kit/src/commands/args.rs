@@ -1,34 +1,44 @@
 //! The words of a command line: files, and options with or without a value.
 
+use super::help;
+
 pub struct Args {
     words: Vec<String>,
     options: Vec<(String, Option<String>)>,
 }
 
 impl Args {
-    /// `with_value` are the options that have a value behind them, `alone` those that have none.
+    /// `with_value` are the options that have a value, behind them or behind a `=`, `alone` those that have none. Behind `--` come
+    /// words alone.
     pub fn parse(words: &[String], with_value: &[&str], alone: &[&str]) -> Result<Args, String> {
         let mut args = Args { words: vec![], options: vec![] };
         let mut rest = words.iter();
         while let Some(word) = rest.next() {
-            if with_value.contains(&word.as_str()) {
-                let value = rest.next().ok_or(format!("a value belongs behind {word}"))?;
-                args.options.push((word.clone(), Some(value.clone())));
-            } else if alone.contains(&word.as_str()) {
-                args.options.push((word.clone(), None));
-            } else if word.starts_with('-') && word != "-" {
-                return Err(format!("no option {word} here"));
-            } else {
+            if word == "--" {
+                args.words.extend(rest.by_ref().cloned());
+            } else if !word.starts_with('-') || word == "-" {
                 args.words.push(word.clone());
+            } else {
+                let (name, value) = split(word);
+                let value = match (with_value.contains(&name), alone.contains(&name), value) {
+                    (true, _, Some(value)) => Some(value.to_string()),
+                    (true, _, None) => Some(rest.next().ok_or(format!("a value belongs behind {name}"))?.clone()),
+                    (_, true, Some(value)) => {
+                        return Err(format!("{name} has no value, and so no `={value}` behind it"));
+                    }
+                    (_, true, None) => None,
+                    _ => return Err(unknown(name, with_value, alone)),
+                };
+                args.options.push((name.to_string(), value));
             }
         }
         Ok(args)
     }
 
-    /// The words that are no options, if there are so many.
-    pub fn words(&self, least: usize, most: usize, usage: &str) -> Result<&[String], String> {
+    /// The words that are no options, if there are so many as the command has.
+    pub fn words(&self, least: usize, most: usize, command: &str) -> Result<&[String], String> {
         let fits = (least..=most).contains(&self.words.len());
-        if fits { Ok(&self.words) } else { Err(format!("usage: neukolja {usage}")) }
+        if fits { Ok(&self.words) } else { Err(format!("usage: {}", help::usage(command))) }
     }
 
     pub fn has(&self, option: &str) -> bool {
@@ -43,5 +53,63 @@ impl Args {
         let wrong = |value: &str| format!("{option}: `{value}` is no number that can stand there");
         let parse = |value: &str| value.replace([',', '_'], "").parse::<N>().map_err(|_| wrong(value));
         self.value(option).map(parse).transpose()
+    }
+}
+
+/// `--name=value`. In `-o=x`, as elsewhere, the `=` belongs to the value, which here stands in a word of its own.
+fn split(word: &str) -> (&str, Option<&str>) {
+    match word.split_once('=') {
+        Some((name, value)) if word.starts_with("--") => (name, Some(value)),
+        _ => (word, None),
+    }
+}
+
+/// An option that the command has not, with those that it has.
+fn unknown(name: &str, with_value: &[&str], alone: &[&str]) -> String {
+    let has: Vec<String> = with_value
+        .iter()
+        .map(|option| format!("{option} VALUE"))
+        .chain(alone.iter().map(|option| option.to_string()))
+        .collect();
+    match &has[..] {
+        [] => format!("no option {name} here, nor any other but --help"),
+        has => format!("no option {name} here; there are {}", has.join(", ")),
+    }
+}
+
+#[cfg(test)]
+mod tests {
+    use super::*;
+
+    fn parse(words: &[&str]) -> Result<Args, String> {
+        let words: Vec<String> = words.iter().map(|word| word.to_string()).collect();
+        Args::parse(&words, &["--limit", "-o"], &["--plain"])
+    }
+
+    #[test]
+    fn values_stand_behind_a_space_or_an_equals_sign() {
+        let args =
+            parse(&["a", "--limit=5", "-o", "-", "--plain", "-", "--", "--limit", "--"]).expect("they are there");
+        assert_eq!(args.words, ["a", "-", "--limit", "--"]);
+        assert_eq!((args.number("--limit"), args.value("-o"), args.has("--plain")), (Ok(Some(5)), Some("-"), true));
+        let args = parse(&["--limit", "7", "--limit", "1,000_000"]).expect("they are there");
+        assert_eq!((args.number("--limit"), args.has("--plain")), (Ok(Some(1_000_000)), false));
+        let args = parse(&["--limit="]).expect("it is there");
+        assert_eq!(args.value("--limit"), Some(""));
+        assert!(args.number::<u32>("--limit").is_err());
+    }
+
+    #[test]
+    fn what_cannot_stand_there_is_refused() {
+        for (words, why) in [
+            (&["--limits", "5"][..], "no option --limits here; there are --limit VALUE, -o VALUE, --plain"),
+            (&["--limits=5"], "no option --limits here; there are --limit VALUE, -o VALUE, --plain"),
+            (&["-ofile"], "no option -ofile here; there are --limit VALUE, -o VALUE, --plain"),
+            (&["--plain=yes"], "--plain has no value, and so no `=yes` behind it"),
+            (&["x", "-o"], "a value belongs behind -o"),
+        ] {
+            assert_eq!(parse(words).err().as_deref(), Some(why));
+        }
+        assert_eq!(unknown("-x", &[], &[]), "no option -x here, nor any other but --help");
     }
 }

@@ -2,9 +2,11 @@
 
 use super::args::Args;
 use super::input::{self, Rules};
+use super::mistakes::{self, Finding, Search};
 use super::show::result_tree;
-use super::{Done, refusal, say_who};
+use super::{Done, refusal, say_who, with_figure, write_out};
 use crate::archive::{self, Expander};
+use crate::figures;
 use crate::notation;
 use crate::pair;
 use crate::reading;
@@ -12,13 +14,15 @@ use crate::response::Response;
 use differential::case::{COUNTS, Case, Counts};
 
 /// What the reference runs use.
-const NO_LIMIT: u32 = u32::MAX;
+pub const NO_LIMIT: u32 = u32::MAX;
 
 /// Conditions, and how they are to be expanded.
 struct Asked {
     rules: Rules,
     limit: u32,
     file: u16,
+    /// The places of the conditions that are asked for: all, or the one of `--rule`.
+    chosen: Vec<usize>,
 }
 
 fn asked(args: &Args, paths: &[String]) -> Result<Asked, String> {
@@ -28,45 +32,94 @@ fn asked(args: &Args, paths: &[String]) -> Result<Asked, String> {
     }
     let limit = args.number("--limit")?.or(rules.limit).unwrap_or(NO_LIMIT);
     let file = args.number("--file")?.or(rules.file).unwrap_or(0);
-    Ok(Asked { rules, limit, file })
+    let chosen = match args.value("--rule") {
+        Some(name) => vec![rules.named(name)?],
+        None => (0..rules.conditions.len()).collect(),
+    };
+    Ok(Asked { rules, limit, file, chosen })
+}
+
+/// A condition with what it was asked as, and the answer.
+struct Answered {
+    /// Its place among the conditions.
+    i: usize,
+    case: Case,
+    response: Response,
 }
 
 impl Asked {
     /// The answer to each condition, each with the counts that the one before it gave back.
-    fn answers(&self, expander: &mut Expander, operation: &str) -> Result<(Vec<Response>, Counts), String> {
+    fn answers(&self, expander: &mut Expander, operation: &str) -> Result<(Vec<Answered>, Counts), String> {
         let operation = archive::operation(operation)?;
         let mut counts = [0; COUNTS];
-        let answers = self.rules.conditions.iter().map(|condition| {
-            let tapes = vec![self.rules.registry.clone(), condition.tape.clone()];
+        let answers = self.chosen.iter().map(|&i| {
+            let tapes = vec![self.rules.registry.clone(), self.rules.conditions[i].tape.clone()];
             let mut case = Case::new(operation, self.limit, tapes);
             (case.file, case.counts) = (self.file, counts);
             let response = expander.answer(&case);
             counts = if operation.has_counts() { response.counts } else { counts };
-            response
+            Answered { i, case, response }
         });
         let answers = answers.collect();
         Ok((answers, counts))
     }
+
+    fn name(&self, i: usize) -> &str {
+        &self.rules.conditions[i].name
+    }
+
+    /// A refusal of an operation that expands, with its place.
+    fn refused(&self, expander: &mut Expander, i: usize, case: &Case, response: &Response) -> Result<String, String> {
+        let finding = Search::new(&self.rules, expander, self.limit, self.file).refusal(i, case, response)?;
+        Ok(mistakes::text(&self.rules, &finding))
+    }
+
+    /// The figure that the tape of a condition as it was given passes, with its place.
+    fn figure(&self, expander: &mut Expander, i: usize, case: &Case) -> Option<Finding> {
+        let (_, passed) = figures::explained(case)?;
+        let found = Search::new(&self.rules, expander, self.limit, self.file).figures_of_rule(i);
+        found.into_iter().find(|finding| finding.passed.is_some_and(|(_, own)| own == passed))
+    }
+
+    /// The one condition that is asked for.
+    fn only(&self, what: &str) -> Result<usize, String> {
+        match self.chosen[..] {
+            [i] => Ok(i),
+            _ => Err(format!("one condition is to be {what}: --rule NAME chooses it")),
+        }
+    }
 }
 
+fn ended(answers: &[Answered]) -> Done {
+    let refused = answers.iter().any(|answered| answered.response.number() != 0);
+    if refused { Done::Refused } else { Done::Well }
+}
+
+/// Each condition as text, or with `-o` the one that is asked for as a tape.
 pub fn expand(words: &[String]) -> Result<Done, String> {
-    let args = Args::parse(words, &["--limit", "--file"], &[])?;
-    let asked = asked(&args, args.words(1, 2, "expand FILE [CONDITIONS] [--limit N] [--file N]")?)?;
+    let args = Args::parse(words, &["--limit", "--file", "--rule", "-o"], &[])?;
+    let asked = asked(&args, args.words(1, 2, "expand")?)?;
+    if args.value("-o").is_some() {
+        asked.only("written")?;
+    }
     let mut expander = Expander::default();
     let (answers, counts) = asked.answers(&mut expander, "expand")?;
     say_who(&expander, archive::operation("expand")?);
-    for (condition, response) in asked.rules.conditions.iter().zip(&answers) {
+    for Answered { i, case, response } in &answers {
+        let name = asked.name(*i);
         match result_tree(&response.result).filter(|_| response.number() == 0) {
             Some(tree) => {
-                say!("{}: expanded, {} charged", condition.name, response.charged());
-                say!("    {}", notation::print_lines(&tree).join("\n    "));
+                say!("{name}: expanded, {} charged", response.charged());
+                match args.value("-o") {
+                    Some(path) => drop(write_out(Some(path), &reading::with_zeros(&response.result))?),
+                    None => say!("    {}", notation::print_lines(&tree).join("\n    ")),
+                }
             }
-            None => say!("{}: {}", condition.name, refusal(response, asked.rules.source.as_ref())),
+            None => say!("{name}: {}", asked.refused(&mut expander, *i, case, response)?),
         }
     }
     print_counts(&asked.rules, &counts);
-    let refused = answers.iter().any(|response| response.number() != 0);
-    Ok(if refused { Done::Refused } else { Done::Well })
+    Ok(ended(&answers))
 }
 
 /// How often each macro was used.
@@ -83,42 +136,35 @@ fn print_counts(rules: &Rules, counts: &Counts) {
 }
 
 pub fn preview(words: &[String]) -> Result<Done, String> {
-    let args = Args::parse(words, &["--limit", "--file"], &[])?;
-    let asked = asked(&args, args.words(1, 2, "preview FILE [CONDITIONS] [--limit N] [--file N]")?)?;
+    let args = Args::parse(words, &["--limit", "--file", "--rule"], &[])?;
+    let asked = asked(&args, args.words(1, 2, "preview")?)?;
     let mut expander = Expander::default();
     let (answers, _) = asked.answers(&mut expander, "preview")?;
     say_who(&expander, archive::operation("preview")?);
-    for (condition, response) in asked.rules.conditions.iter().zip(&answers) {
+    for Answered { i, case, response } in &answers {
         let [.., entries, text] = response.words;
+        let name = asked.name(*i);
         match response.number() {
             0 => {
-                let bytes = 8 + 9 * entries + text;
-                say!(
-                    "{}: {} charged, {entries} entries, {text} bytes of text, {bytes} bytes",
-                    condition.name,
-                    response.charged()
-                );
+                let (charged, bytes) = (response.charged(), 8 + 9 * entries + text);
+                say!("{name}: {charged} charged, {entries} entries, {text} bytes of text, {bytes} bytes");
             }
-            _ => say!("{}: {}", condition.name, refusal(response, asked.rules.source.as_ref())),
+            _ => say!("{name}: {}", asked.refused(&mut expander, *i, case, response)?),
         }
     }
-    let refused = answers.iter().any(|response| response.number() != 0);
-    Ok(if refused { Done::Refused } else { Done::Well })
+    Ok(ended(&answers))
 }
 
 /// `judge FILE [CONDITION] TAPE`: one condition, and another supplier's result of it.
 pub fn judge(words: &[String]) -> Result<Done, String> {
     let args = Args::parse(words, &["--limit", "--file", "--rule"], &[])?;
-    let words = args.words(2, 3, "judge FILE [CONDITION] TAPE [--rule NAME] [--limit N] [--file N]")?;
+    let words = args.words(2, 3, "judge")?;
     let (supplied, paths) = words.split_last().expect("two or three");
     let asked = asked(&args, paths)?;
-    let named = |name: &str| args.value("--rule").is_none_or(|wanted| wanted == name);
-    let mut chosen = asked.rules.conditions.iter().filter(|condition| named(&condition.name));
-    let (Some(condition), None) = (chosen.next(), chosen.next()) else {
-        return Err("one condition is to be judged: --rule NAME chooses it".to_string());
-    };
+    let i = asked.only("judged")?;
     let operation = archive::operation("judge")?;
     let mut expander = Expander::default();
+    let condition = &asked.rules.conditions[i];
     let tapes = vec![asked.rules.registry.clone(), condition.tape.clone(), input::tape(supplied)?];
     let mut case = Case::new(operation, asked.limit, tapes);
     case.file = asked.file;
@@ -126,11 +172,12 @@ pub fn judge(words: &[String]) -> Result<Done, String> {
     say_who(&expander, operation);
     match response.number() {
         0 => say!("{}: equal but for generated names, {} charged", condition.name, response.charged()),
-        _ => say!("{}: {}", condition.name, refusal(&response, asked.rules.source.as_ref())),
-    }
-    if response.number() == 50 {
-        let ours = expander.answer(&Case { operation: archive::operation("expand")?, ..case.clone() });
-        say!("    {}", pair::first_entry_but_names(&ours.result, &case.tapes[2]));
+        50 => {
+            say!("{}: {}", condition.name, refusal(&response, None));
+            let ours = expander.answer(&Case { operation: archive::operation("expand")?, ..case.clone() });
+            say!("    {}", pair::first_entry_but_names(&ours.result, &case.tapes[2]));
+        }
+        _ => say!("{}: {}", condition.name, asked.refused(&mut expander, i, &case, &response)?),
     }
     Ok(if response.number() == 0 { Done::Well } else { Done::Refused })
 }
@@ -138,8 +185,8 @@ pub fn judge(words: &[String]) -> Result<Done, String> {
 /// The first rule of the battery head that each condition breaks. A head gets what its rules are expanded to, so where
 /// there are macros they are expanded first.
 pub fn profile(words: &[String]) -> Result<Done, String> {
-    let args = Args::parse(words, &["--limit", "--file"], &["--as-is"])?;
-    let asked = asked(&args, args.words(1, 2, "profile FILE [CONDITIONS] [--as-is] [--limit N] [--file N]")?)?;
+    let args = Args::parse(words, &["--limit", "--file", "--rule"], &["--as-is"])?;
+    let asked = asked(&args, args.words(1, 2, "profile")?)?;
     let operation = archive::operation("profile")?;
     let mut expander = Expander::default();
     let expanded = match asked.rules.definitions.is_empty() || args.has("--as-is") {
@@ -147,16 +194,25 @@ pub fn profile(words: &[String]) -> Result<Done, String> {
         false => Some(asked.answers(&mut expander, "expand")?.0),
     };
     let mut all_fit = true;
-    for (i, condition) in asked.rules.conditions.iter().enumerate() {
-        let of = |response: &Response| reading::with_zeros(&response.result);
-        let response = match expanded.as_ref().map(|answers| &answers[i]) {
-            Some(refused) if refused.number() != 0 => refused.clone(),
-            Some(answer) => expander.answer(&Case::new(operation, 0, vec![of(answer)])),
-            None => expander.answer(&Case::new(operation, 0, vec![condition.tape.clone()])),
+    for (at, &i) in asked.chosen.iter().enumerate() {
+        let name = asked.name(i);
+        let tape = match expanded.as_ref().map(|answers| &answers[at]) {
+            Some(Answered { case, response, .. }) if response.number() != 0 => {
+                say!("{name}: {}", asked.refused(&mut expander, i, case, response)?);
+                all_fit = false;
+                continue;
+            }
+            Some(Answered { response, .. }) => reading::with_zeros(&response.result),
+            None => asked.rules.conditions[i].tape.clone(),
         };
-        match response.number() {
-            0 => say!("{}: fit for the battery head", condition.name),
-            _ => say!("{}: {}", condition.name, refusal(&response, asked.rules.source.as_ref())),
+        let case = Case::new(operation, 0, vec![tape]);
+        let response = expander.answer(&case);
+        // What was expanded has no places any more.
+        let found = if expanded.is_none() { asked.figure(&mut expander, i, &case) } else { None };
+        match (response.number(), found) {
+            (0, _) => say!("{name}: fit for the battery head"),
+            (_, Some(found)) => say!("{name}: {}", mistakes::text(&asked.rules, &found)),
+            _ => say!("{name}: {}", with_figure(&case, refusal(&response, asked.rules.only_source()))),
         }
         all_fit &= response.number() == 0;
     }

@@ -2,7 +2,8 @@
 
 use super::args::Args;
 use super::counted;
-use crate::notation::{self, Document, Mistake, Rule};
+use crate::nearest::nearest;
+use crate::notation::{self, Mistake, Placed, Reading, Rule};
 use crate::reading;
 use crate::source::Source;
 use differential::tape::{self, Node, Sort};
@@ -10,7 +11,7 @@ use std::io::Read;
 
 pub enum Input {
     Tape(Vec<u8>),
-    Text(Source, Document),
+    Text(Source, Box<Reading>),
 }
 
 /// What stands in a file, or `-` for standard input.
@@ -24,7 +25,8 @@ pub fn bytes(path: &str) -> Result<Vec<u8>, String> {
     Ok(bytes)
 }
 
-pub fn load(path: &str) -> Result<Input, String> {
+/// A tape, or as much of a text as can be read.
+pub fn read(path: &str) -> Result<Input, String> {
     let bytes = bytes(path)?;
     if bytes.iter().all(u8::is_ascii_whitespace) {
         return Err(format!("{path}: nothing in it"));
@@ -37,11 +39,27 @@ pub fn load(path: &str) -> Result<Input, String> {
         let lines = e.as_bytes()[..at].split(|byte| *byte == b'\n').count();
         format!("{path}:{lines}: byte {:02X} is no UTF-8, as a text of rules has to be", e.as_bytes()[at])
     })?;
-    let source = Source { name: path.to_string(), text };
-    match notation::parse(&source.text) {
-        Ok(document) => Ok(Input::Text(source, document)),
-        Err(Mistake { start, end, what }) => Err(source.pointed(start, end, &what)),
+    let reading = notation::read(&text);
+    Ok(Input::Text(Source { name: path.to_string(), text }, Box::new(reading)))
+}
+
+/// A tape, or a text without mistakes.
+pub fn load(path: &str) -> Result<Input, String> {
+    match read(path)? {
+        Input::Text(source, reading) if !reading.mistakes.is_empty() => Err(unreadable(&source, &reading.mistakes)),
+        input => Ok(input),
     }
+}
+
+/// The first mistake of a text, and how many more there are.
+fn unreadable(source: &Source, mistakes: &[Mistake]) -> String {
+    let Mistake { start, end, what, meant } = &mistakes[0];
+    let meant = meant.as_ref().map_or(String::new(), |meant| format!("\n    did you mean `{meant}`?"));
+    let more = match mistakes.len() - 1 {
+        0 => String::new(),
+        more => format!("\n({more} more; `neukolja check {}` has them all)", source.name),
+    };
+    source.pointed(*start, *end, what) + &meant + &more
 }
 
 /// What no text has, and nearly every tape, whole or cut: a control that is neither a tab nor a line's end.
@@ -53,9 +71,10 @@ fn is_control(byte: &u8) -> bool {
 pub fn tape(path: &str) -> Result<Vec<u8>, String> {
     match load(path)? {
         Input::Tape(bytes) => Ok(bytes),
-        Input::Text(_, document) => {
+        Input::Text(_, reading) => {
+            let document = reading.document;
             let several = || {
-                let name = |(i, rule)| format!("`{}`", condition(i, rule).name);
+                let name = |(i, rule)| format!("`{}`", rule_name(i, rule));
                 let names: Vec<String> = document.rules.iter().enumerate().map(name).collect();
                 let macros = counted(document.definitions.len(), "macro");
                 format!("{path}: {macros} and the rules {}, which are several tapes", names.join(", "))
@@ -75,29 +94,42 @@ pub fn chosen(args: &Args, path: &str) -> Result<Vec<u8>, String> {
         return tape(path).map_err(|why| if is_several(&why) { why + ": --macros or --rule NAME" } else { why });
     };
     let rules = Rules::load(&[path.to_string()])?;
-    let mut found = rules.conditions.into_iter().filter(|condition| condition.name == wanted);
-    match (found.next(), found.next()) {
-        (Some(condition), None) => Ok(condition.tape),
-        (None, _) => Err(format!("{path}: no rule `{wanted}`")),
-        _ => Err(format!("{path}: several rules `{wanted}`")),
-    }
+    rules.named(wanted).map(|i| rules.conditions[i].tape.clone())
+}
+
+/// What places stand in: a text, or a tape, whose places are its entries.
+pub enum File {
+    Text(Source),
+    Tape(String),
 }
 
 /// Macros and conditions, from one file or from two.
 pub struct Rules {
-    /// The text that spans of answers point into, if there is one for all.
-    pub source: Option<Source>,
+    /// That of the macros, and behind it that of conditions alone if there is one.
+    pub files: Vec<File>,
     pub registry: Vec<u8>,
     /// Those of the registry, as far as it can be read.
     pub definitions: Vec<Node>,
+    /// The same with their places in the first file.
+    pub macros: Vec<Placed>,
     pub conditions: Vec<Condition>,
     pub limit: Option<u32>,
     pub file: Option<u16>,
+    /// Whether spans are places in the first file, which is a text.
+    pub spans_counted: bool,
+    /// What of each file could not be read: its number among the files, and the mistake.
+    pub mistakes: Vec<(usize, Mistake)>,
+    /// The names of macros that could not be read.
+    pub unread: Vec<Vec<u8>>,
 }
 
 pub struct Condition {
     pub name: String,
     pub tape: Vec<u8>,
+    /// Its tree with places, if it is one.
+    pub tree: Option<Placed>,
+    /// The number of its file.
+    pub file: usize,
     /// Whether it is a rule of a text, and no tape of its own.
     is_text: bool,
 }
@@ -111,69 +143,147 @@ impl Rules {
         }
     }
 
+    /// Macros and conditions of files without mistakes.
     pub fn load(paths: &[String]) -> Result<Rules, String> {
+        let rules = Rules::read(paths)?;
+        match &rules.mistakes[..] {
+            [] => Ok(rules),
+            [(file, _), ..] => {
+                let of_it = rules.mistakes.iter().filter(|(other, _)| other == file);
+                let mistakes: Vec<Mistake> = of_it.map(|(_, mistake)| mistake.clone()).collect();
+                Err(unreadable(rules.source(*file).expect("tapes have no such mistakes"), &mistakes))
+            }
+        }
+    }
+
+    /// Macros and conditions as far as they can be read.
+    pub fn read(paths: &[String]) -> Result<Rules, String> {
         let [first, rest @ ..] = paths else { return Err("no file".to_string()) };
-        let mut rules = Rules::of_one(load(first)?, first)?;
+        let mut rules = Rules::of_one(read(first)?, first);
         if let [second] = rest {
-            let more = Rules::of_one(load(second)?, second)?;
+            let more = Rules::of_one(read(second)?, second);
             if !more.definitions.is_empty() {
                 return Err(format!("{second}: the second file is for conditions alone"));
             }
-            rules.source = None;
-            rules.conditions.extend(more.conditions);
+            rules.files.extend(more.files);
+            rules.mistakes.extend(more.mistakes.into_iter().map(|(_, mistake)| (1, mistake)));
+            rules.conditions.extend(more.conditions.into_iter().map(|condition| Condition { file: 1, ..condition }));
             (rules.limit, rules.file) = (more.limit.or(rules.limit), more.file.or(rules.file));
         }
         Ok(rules)
     }
 
-    fn of_one(input: Input, path: &str) -> Result<Rules, String> {
-        match input {
-            Input::Tape(bytes) => Ok(Rules::of_tape(bytes, path)),
-            Input::Text(source, Document { root: Some(root), spans_counted, .. }) => Ok(Rules {
-                source: Some(source).filter(|_| spans_counted),
-                ..Rules::of_tape(tape::encode(&root), path)
-            }),
-            Input::Text(source, document) => {
-                let counted = document.spans_counted;
-                let registry = document.registry();
-                let conditions = document.rules.iter().enumerate().map(|(i, rule)| condition(i, rule)).collect();
-                Ok(Rules {
-                    source: Some(source).filter(|_| counted),
-                    registry: tape::encode(&registry),
-                    definitions: registry.children,
-                    conditions,
-                    limit: document.limit,
-                    file: document.file,
-                })
-            }
+    /// The text of a file.
+    pub fn source(&self, file: usize) -> Option<&Source> {
+        match &self.files[file] {
+            File::Text(source) => Some(source),
+            File::Tape(_) => None,
         }
+    }
+
+    /// The text that spans of answers point into, if there is one for all.
+    pub fn only_source(&self) -> Option<&Source> {
+        if self.files.len() == 1 && self.spans_counted { self.source(0) } else { None }
+    }
+
+    /// The place of the one rule of this name.
+    pub fn named(&self, wanted: &str) -> Result<usize, String> {
+        let path = match &self.files[self.files.len() - 1] {
+            File::Text(source) => &source.name,
+            File::Tape(name) => name,
+        };
+        let mut found = (0..self.conditions.len()).filter(|i| self.conditions[*i].name == wanted);
+        match (found.next(), found.next()) {
+            (Some(i), None) => Ok(i),
+            (None, _) => {
+                let near = nearest(wanted, self.conditions.iter().map(|condition| condition.name.as_str()));
+                let meant = near.map_or(String::new(), |near| format!("; did you mean `{near}`?"));
+                Err(format!("{path}: no rule `{wanted}`{meant}"))
+            }
+            _ => Err(format!("{path}: several rules `{wanted}`")),
+        }
+    }
+
+    fn empty(file: File) -> Rules {
+        Rules {
+            files: vec![file],
+            registry: tape::encode(&Node::counted(41, 1, vec![])),
+            definitions: vec![],
+            macros: vec![],
+            conditions: vec![],
+            limit: None,
+            file: None,
+            spans_counted: false,
+            mistakes: vec![],
+            unread: vec![],
+        }
+    }
+
+    /// Macros and conditions of a text.
+    #[cfg(test)]
+    pub fn of_text(name: &str, text: &str) -> Rules {
+        let source = Source { name: name.to_string(), text: text.to_string() };
+        Rules::of_one(Input::Text(source, Box::new(notation::read(text))), name)
+    }
+
+    fn of_one(input: Input, path: &str) -> Rules {
+        let (source, reading) = match input {
+            Input::Tape(bytes) => return Rules::of_tape(bytes, path),
+            Input::Text(source, reading) => (source, reading),
+        };
+        let Reading { document, mistakes, unread } = *reading;
+        let none = Rules {
+            spans_counted: document.spans_counted,
+            mistakes: mistakes.into_iter().map(|mistake| (0, mistake)).collect(),
+            unread,
+            ..Rules::empty(File::Text(source))
+        };
+        if let Some(root) = document.placed.root {
+            return none.with_root(root, path);
+        }
+        let condition = |((i, rule), tree): ((usize, &Rule), Placed)| Condition {
+            name: rule_name(i, rule),
+            tape: tape::encode(&rule.condition),
+            tree: Some(tree),
+            file: 0,
+            is_text: true,
+        };
+        let conditions = document.rules.iter().enumerate().zip(document.placed.rules).map(condition).collect();
+        let limits = (document.limit, document.file);
+        Rules { conditions, limit: limits.0, file: limits.1, ..none }.with_macros(document.placed.definitions)
     }
 
     /// A registry's tape, a definition's, or a condition's. One that is none is taken as a condition's, and refused as
     /// such.
     fn of_tape(bytes: Vec<u8>, path: &str) -> Rules {
-        let empty = Node::counted(41, 1, vec![]);
-        let none = Rules {
-            source: None,
-            registry: tape::encode(&empty),
-            definitions: vec![],
-            conditions: vec![],
-            limit: None,
-            file: None,
-        };
-        let [several, one] = [Sort::Definitions, Sort::Definition].map(|root| reading::tree(&bytes, root));
-        match (several, one) {
-            (Ok(tree), _) => Rules { registry: bytes, definitions: tree.children, ..none },
-            (_, Ok(definition)) => {
-                let registry = Node::counted(41, 1, vec![definition]);
-                Rules { registry: tape::encode(&registry), definitions: registry.children, ..none }
-            }
-            _ => Rules { conditions: vec![Condition { name: path.to_string(), tape: bytes, is_text: false }], ..none },
+        let none = Rules::empty(File::Tape(path.to_string()));
+        match reading::tree(&bytes, Sort::Any) {
+            Ok(tree) => none.with_root(Placed::of_tape(&tree), path),
+            Err(_) => none.with_condition(bytes, None, path),
         }
+    }
+
+    /// The tree of a tape, or of a text that says `root`.
+    fn with_root(self, root: Placed, path: &str) -> Rules {
+        match root.code {
+            41 => self.with_macros(root.children),
+            60 => self.with_macros(vec![root]),
+            _ => self.with_condition(tape::encode(&root.node()), Some(root), path),
+        }
+    }
+
+    fn with_macros(self, macros: Vec<Placed>) -> Rules {
+        let registry = Node::counted(41, 1, macros.iter().map(Placed::node).collect());
+        Rules { registry: tape::encode(&registry), definitions: registry.children, macros, ..self }
+    }
+
+    fn with_condition(self, tape: Vec<u8>, tree: Option<Placed>, path: &str) -> Rules {
+        let tree = tree.filter(|tree| tape::codes(Sort::Condition).contains(&tree.code));
+        let name = path.to_string();
+        Rules { conditions: vec![Condition { name, tape, tree, file: 0, is_text: false }], ..self }
     }
 }
 
-fn condition(i: usize, rule: &Rule) -> Condition {
-    let name = rule.name.clone().unwrap_or_else(|| format!("rule {}", i + 1));
-    Condition { name, tape: tape::encode(&rule.condition), is_text: true }
+fn rule_name(i: usize, rule: &Rule) -> String {
+    rule.name.clone().unwrap_or_else(|| format!("rule {}", i + 1))
 }

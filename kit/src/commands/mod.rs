@@ -3,7 +3,9 @@
 mod args;
 mod check;
 mod expand;
+mod help;
 mod input;
+mod mistakes;
 mod pairing;
 mod show;
 mod tapes;
@@ -11,11 +13,13 @@ mod tapes;
 pub use args::Args;
 pub use show::{entries, result_text, result_tree};
 
-use crate::archive::{Expander, Who};
+use crate::archive::{self, Expander, Who};
+use crate::figures::{self, Whose};
 use crate::numbers;
+use crate::output;
 use crate::response::Response;
 use crate::source::Source;
-use differential::case::Operation;
+use differential::case::{Case, Operation};
 use std::io::{IsTerminal, Write};
 
 /// How a command ended: its exit status.
@@ -27,48 +31,37 @@ pub enum Done {
     Refused,
 }
 
-pub const USAGE: &str = "neukolja COMMAND
-  expand FILE [CONDITIONS]    macros and conditions: each condition expanded, or its refusal
-  check FILE                  every mistake in the macros of a file
-  show TAPE                   a tape as text (--plain: without spans; --entries: entry by entry)
-  tape FILE [-o TAPE]         a text as a tape (--macros, --rule NAME: of a file with several)
-  preview FILE [CONDITIONS]   number, charge and size of each result, without the result
-  older FILE [-o TAPE]        the tape for heads without weeks
-  judge FILE TAPE             whether another supplier's result is equal to ours (--rule NAME: of a file with several)
-  profile FILE [CONDITIONS]   whether conditions, expanded, are fit for the battery head (--as-is: not expanded)
-  merge FIRST SECOND [-o T]   two registries joined
-  pair A B                    two expanders side by side; the first difference as a rule
-  serve                       this archive, for `pair`
-  wrong NAME                  a deliberately wrong head, for `pair` (wrong --list)
-  corpus FOLDER               writes the corpus: cases with the Rust's answers
-A FILE is a text (docs/NOTATION.md) or a tape; `-` is standard input. --limit N and --file N go with expand, preview,
-judge and profile. `neukolja pair` alone says how to use it. Exit status: 0, 1 if something was refused or a difference
-was found, 2 if the command could not be carried out.";
-
 pub fn run(words: &[String]) -> Result<Done, String> {
-    let Some((command, rest)) = words.split_first() else { return Ok(help()) };
-    match command.as_str() {
-        "help" | "--help" | "-h" => Ok(help()),
-        "expand" => expand::expand(rest),
-        "preview" => expand::preview(rest),
-        "judge" => expand::judge(rest),
-        "check" => check::check(rest),
-        "show" => show::show(rest),
-        "tape" => show::tape(rest),
-        "older" => tapes::older(rest),
-        "profile" => expand::profile(rest),
-        "merge" => tapes::merge(rest),
-        "pair" => pairing::pair(rest),
-        "serve" => pairing::serve(rest),
-        "wrong" => pairing::wrong(rest),
-        "corpus" => pairing::corpus(rest),
-        _ => Err(format!("no command `{command}`\n{USAGE}")),
+    let Some((first, rest)) = words.split_first() else { return said(help::ALL) };
+    match (first.as_str(), rest) {
+        ("--version", _) => said(&version()),
+        ("help" | "--help" | "-h", []) => said(help::ALL),
+        ("help" | "--help" | "-h", [name, ..]) => said(help::command(name)?.help),
+        (name, _) => {
+            let command = help::command(name)?;
+            if asks_for_help(rest) { said(command.help) } else { (command.run)(rest) }
+        }
     }
 }
 
-fn help() -> Done {
-    say!("{USAGE}");
-    Done::Well
+/// Wherever it stands before `--`, help is all that is wanted.
+fn asks_for_help(words: &[String]) -> bool {
+    words.iter().take_while(|word| *word != "--").any(|word| word == "--help" || word == "-h")
+}
+
+fn said(text: &str) -> Result<Done, String> {
+    say!("{}", text.trim_end());
+    Ok(Done::Well)
+}
+
+/// What the kit knows of itself. The commit is known to `../neukolja`, which says more.
+fn version() -> String {
+    let operations: Vec<&str> = Expander::default().operations().into_iter().map(Operation::name).collect();
+    let archive = match archive::LINKED {
+        None => "none; the model in differential/ answers".to_string(),
+        Some(path) => format!("{path}, with {}", operations.join(" ")),
+    };
+    format!("neukolja, the kit by itself\narchive: {archive}\n{}", help::FORMAT)
 }
 
 /// `1 macro`, `2 macros`
@@ -76,12 +69,18 @@ fn counted(n: usize, what: &str) -> String {
     format!("{n} {what}{}", if n == 1 { "" } else { "s" })
 }
 
-/// Says so where the archive was not the one to answer.
+/// `../neukolja` sets it where it has said what answers.
+const SAID: &str = "NEUKOLJA_SAID";
+
+/// Says so where the archive was not the one to answer, unless that was said before.
 fn say_who(expander: &Expander, operation: Operation) {
-    if expander.who(operation) == Who::Model {
-        let why = if expander.has_archive() { "the archive has not" } else { "no archive is linked" };
-        say!("({}: {why}; answered by the model in differential/)", operation.name());
-    }
+    let why = match expander.who(operation) {
+        Who::Archive => return,
+        Who::Model if expander.has_archive() => "the archive has not",
+        Who::Model if std::env::var_os(SAID).is_some() => return,
+        Who::Model => "no archive is linked",
+    };
+    note!("({}: {why}; answered by the model in differential/)", operation.name());
 }
 
 /// A refusal: its place in the text where it has one, its number, and its message or what the number means.
@@ -99,12 +98,22 @@ fn refusal(response: &Response, source: Option<&Source>) -> String {
     }
 }
 
+/// A refusal with the figure that is passed, if it is 3.
+fn with_figure(case: &Case, said: String) -> String {
+    let Some((whose, passed)) = figures::explained(case) else { return said };
+    let entry = match whose {
+        Whose::Tape(_) => format!(", passed with entry {}", passed.entry + 1),
+        _ => String::new(),
+    };
+    format!("{said}: {}{entry}", mistakes::large(whose, &passed))
+}
+
 /// Writes a tape to a file, or to standard output if that is no terminal.
 fn write_out(path: Option<&str>, bytes: &[u8]) -> Result<Done, String> {
     match path {
         Some(path) => std::fs::write(path, bytes).map_err(|e| format!("{path}: {e}"))?,
         None if std::io::stdout().is_terminal() => return Err("a tape is no text: -o FILE, or a pipe".to_string()),
-        None => std::io::stdout().write_all(bytes).map_err(|e| format!("standard output: {e}"))?,
+        None => output::bytes(bytes),
     }
     Ok(Done::Well)
 }

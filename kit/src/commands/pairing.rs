@@ -3,53 +3,111 @@
 use super::Done;
 use super::args::Args;
 use crate::corpus;
-use crate::pair::{self, Plan, Shape};
+use crate::pair::{self, Plan, Shape, Went};
 use crate::second::{FAULTS, Fault, Second};
 use crate::serve::{self, Ours};
 use differential::case::{OPERATIONS, Operation};
 use std::io::IsTerminal;
 use std::time::Duration;
 
-const USAGE: &str = "pair A B [--cases N] [--seed N] [--from N] [--corpus FOLDER] [--only OPERATION,..]
-                    [--timeout SECONDS] [--as-found] [--quiet]
-A and B are commands that speak the protocol of docs/SUPPLIER.md, or
-  ours         this checkout's archive
-  model        the scope paper in Rust, from differential/
-  second       an expander of the kit's own, which links nothing of the archive
-  wrong:NAME   a deliberately wrong one (`neukolja wrong --list`)
-Exit status: 0 no difference, 1 a difference or a head that hangs, dies or answers garbage, 2 anything else";
-
 /// Without a word of the user's, so many cases of seed 1.
 const CASES: u64 = 100_000;
 
+/// More jobs than these are a mistake.
+const MOST_JOBS: usize = 256;
+
 pub fn pair(words: &[String]) -> Result<Done, String> {
-    let with_value = ["--cases", "--seed", "--from", "--corpus", "--only", "--timeout"];
-    let args = Args::parse(words, &with_value, &["--as-found", "--quiet"])?;
-    let [a, b] = args.words(2, 2, USAGE)? else { unreachable!("two words") };
-    let commands = [command(a)?, command(b)?];
+    let with_value =
+        ["--cases", "--seed", "--from", "--corpus", "--only", "--timeout", "--found", "--jobs", "--format", "--report"];
+    let args = Args::parse(words, &with_value, &["--as-found", "--quiet", "--keep-going"])?;
+    let [a, b] = args.words(2, 2, "pair")? else { unreachable!("two words") };
+    let names = [a.clone(), b.clone()];
+    let format = Format::named(args.value("--format").unwrap_or("text"))?;
+    let plan = plan(&args, [command(a)?, command(b)?])?;
+    // It has to be known before the night that the report can be written.
+    args.value("--report").map(|path| written(path, "")).transpose()?;
+    let went = pair::pair(&plan)?;
+    match &went {
+        Err((i, failure, complaints)) if failure.is_missing() => {
+            let said = complaints.text();
+            return Err(format!("{}, `{}`, cannot be started: {said}", ["A", "B"][*i], names[*i]));
+        }
+        Ok(pairing) if pairing.compared() == 0 => {
+            return Err(format!("no case was compared; {} were left out as not for both", pairing.left_out));
+        }
+        _ => {}
+    }
+    let report = format.report(&went, &names);
+    match args.value("--report") {
+        None => say!("{}", report.trim_end()),
+        Some(path) => {
+            written(path, &report)?;
+            say!("{}; the report is in {path}", in_a_line(&went, &names));
+        }
+    }
+    Ok(if pair::is_equal(&went) { Done::Well } else { Done::Refused })
+}
+
+fn plan(args: &Args, commands: [String; 2]) -> Result<Plan, String> {
     let corpora: Vec<String> = args.value("--corpus").map(str::to_string).into_iter().collect();
-    let plan = Plan {
-        commands: commands.clone(),
-        cases: args.number("--cases")?.unwrap_or(if corpora.is_empty() { CASES } else { 0 }),
+    let cases = args.number("--cases")?.unwrap_or(if corpora.is_empty() { CASES } else { 0 });
+    let jobs = args.number("--jobs")?.unwrap_or(1);
+    if !(1..=MOST_JOBS).contains(&jobs) {
+        return Err(format!("--jobs: from 1 to {MOST_JOBS}, not {jobs}"));
+    }
+    Ok(Plan {
         corpora,
-        seed: args.number("--seed")?.unwrap_or(1),
         from: args.number("--from")?.unwrap_or(0),
         timeout: timeout(args.number("--timeout")?.unwrap_or(10.0))?,
         only: args.value("--only").map(operations).transpose()?,
         shrinks: !args.has("--as-found"),
         quiet: args.has("--quiet"),
-    };
-    match pair::pair(&plan)? {
-        Ok(pairing) => {
-            if pairing.ran == 0 {
-                return Err(format!("no case was compared; {} were left out as not for both", pairing.left_out));
-            }
-            say!("{}", pair::report(&pairing, &[a.clone(), b.clone()]));
-            Ok(if pairing.found.is_none() { Done::Well } else { Done::Refused })
+        keep_going: args.has("--keep-going"),
+        jobs,
+        found: args.value("--found").map(str::to_string),
+        ..Plan::new(commands, args.number("--seed")?.unwrap_or(1), cases)
+    })
+}
+
+/// How a report is written.
+#[derive(Clone, Copy)]
+enum Format {
+    Text,
+    Json,
+    Junit,
+}
+
+impl Format {
+    fn named(name: &str) -> Result<Format, String> {
+        match name {
+            "text" => Ok(Format::Text),
+            "json" => Ok(Format::Json),
+            "junit" => Ok(Format::Junit),
+            _ => Err(format!("--format: text, json or junit, not `{name}`")),
         }
-        Err((i, failure)) => {
-            say!("{} ({}) does not say hello: it {failure}", ["A", "B"][i], [a, b][i]);
-            Ok(Done::Refused)
+    }
+
+    fn report(self, went: &Went, names: &[String; 2]) -> String {
+        match self {
+            Format::Text => format!("{}\n", pair::text(went, names)),
+            Format::Json => format!("{:#}\n", pair::json(went, names)),
+            Format::Junit => pair::junit(went, names),
+        }
+    }
+}
+
+fn written(path: &str, text: &str) -> Result<(), String> {
+    std::fs::write(path, text).map_err(|e| format!("{path}: {e}"))
+}
+
+/// How it went, and how long it took.
+fn in_a_line(went: &Went, names: &[String; 2]) -> String {
+    match went {
+        Err(no_hello) => pair::of_no_hello(no_hello, names),
+        Ok(pairing) => {
+            let rate = pairing.ran as f64 / pairing.time.as_secs_f64().max(0.001);
+            let took = format!("{}, {} a second", pair::clock(pairing.time), pair::grouped(rate as u64));
+            format!("{} ({took})", pair::summary(pairing))
         }
     }
 }
@@ -87,7 +145,7 @@ fn command(word: &str) -> Result<String, String> {
 
 pub fn serve(words: &[String]) -> Result<Done, String> {
     let args = Args::parse(words, &[], &["--model"])?;
-    args.words(0, 0, "serve [--model]")?;
+    args.words(0, 0, "serve")?;
     if std::io::stdin().is_terminal() {
         return Err(
             "serve answers requests on standard input, as docs/SUPPLIER.md describes them: for `pair`".to_string()
@@ -108,11 +166,7 @@ pub fn wrong(words: &[String]) -> Result<Done, String> {
         FAULTS.iter().for_each(|(name, _, what)| say!("{name:25} {what}"));
         return Ok(Done::Well);
     }
-    let [name] =
-        args.words(1, 1, "wrong NAME, wrong --list, or wrong --table [--only NAME,..] [--cases N] [--seed N]")?
-    else {
-        unreachable!("one word")
-    };
+    let [name] = args.words(1, 1, "wrong")? else { unreachable!("one word") };
     serve::serve(&mut Second { fault: fault(name)? }, std::io::stdin().lock(), std::io::stdout().lock())?;
     Ok(Done::Well)
 }
@@ -129,18 +183,10 @@ fn table(args: &Args) -> Result<Done, String> {
     let mut all_found = true;
     say!("| head | what is wrong | cases | entries | the rule that shows it |\n|---|---|---:|---:|---|");
     for (name, _, what) in FAULTS.iter().filter(|(name, ..)| only.as_ref().is_none_or(|only| only.contains(name))) {
-        let plan = Plan {
-            commands: [command("ours")?, command(&format!("wrong:{name}"))?],
-            corpora: vec![],
-            seed,
-            from: 0,
-            cases,
-            timeout: Duration::from_secs(10),
-            only: None,
-            shrinks: true,
-            quiet: true,
-        };
-        let found = pair::pair(&plan)?.ok().and_then(|pairing| Some((pairing.ran, pairing.found?)));
+        let commands = [command("ours")?, command(&format!("wrong:{name}"))?];
+        let plan = Plan { quiet: true, ..Plan::new(commands, seed, cases) };
+        let found =
+            pair::pair(&plan)?.ok().and_then(|pairing| Some((pairing.ran, pairing.causes.into_iter().next()?.found)));
         all_found &= found.is_some();
         let row = found.map_or("not found | | ".to_string(), |(ran, found)| {
             let shape = &found.smallest.shape;
@@ -162,10 +208,14 @@ const CORPUS_CASES: u64 = 400_000;
 
 pub fn corpus(words: &[String]) -> Result<Done, String> {
     let args = Args::parse(words, &["--seed", "--cases"], &[])?;
-    let [folder] = args.words(1, 1, "corpus FOLDER [--seed N] [--cases N]")? else { unreachable!("one word") };
+    let [folder] = args.words(1, 1, "corpus")? else { unreachable!("one word") };
     differential::upstream::quiet_panics();
     let (seed, cases) = (args.number("--seed")?.unwrap_or(1), args.number("--cases")?.unwrap_or(CORPUS_CASES));
-    let made = corpus::make(seed, cases)?;
+    // Who waits in front of a terminal sees how long; a pipe gets nothing but the last line.
+    let mut progress = pair::Progress::new(cases, !std::io::stderr().is_terminal());
+    let made = corpus::make(seed, cases, &mut |done| progress.show(done));
+    progress.end();
+    let made = made?;
     corpus::write(&made, std::path::Path::new(folder))?;
     let bytes = (made.requests.len() + made.responses.len()) as u64;
     let cases = pair::grouped(made.cases as u64);

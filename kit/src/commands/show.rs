@@ -9,8 +9,7 @@ use differential::tape::{self, Node, Sort, Value};
 
 pub fn show(words: &[String]) -> Result<Done, String> {
     let args = Args::parse(words, &["--rule"], &["--plain", "--entries", "--macros"])?;
-    let usage = "show TAPE [--plain] [--entries] [--macros] [--rule NAME]";
-    let [path] = args.words(1, 1, usage)? else { unreachable!("one word") };
+    let [path] = args.words(1, 1, "show")? else { unreachable!("one word") };
     let bytes = input::chosen(&args, path)?;
     if args.has("--entries") {
         let sections = reading::sections(&bytes).map_err(|why| format!("{path}: {why}"))?;
@@ -54,7 +53,7 @@ pub fn entries(s: Sections) -> String {
 
 pub fn tape(words: &[String]) -> Result<Done, String> {
     let args = Args::parse(words, &["-o", "--rule"], &["--macros"])?;
-    let [path] = args.words(1, 1, "tape FILE [--macros] [--rule NAME] [-o TAPE]")? else { unreachable!("one word") };
+    let [path] = args.words(1, 1, "tape")? else { unreachable!("one word") };
     write_out(args.value("-o"), &input::chosen(&args, path)?)
 }
 

@@ -2,12 +2,13 @@
 
 use super::args::Args;
 use super::input::{self, Rules};
-use super::{Done, refusal, say_who, write_out};
+use super::mistakes::{self, Finding, Search};
+use super::{Done, refusal, say_who, with_figure, write_out};
 use crate::archive::{self, Expander};
+use crate::figures::{self, Whose};
 use crate::notation::{self, Spans};
 use crate::reading;
 use crate::response::Response;
-use crate::source::Source;
 use differential::case::{Case, Operation};
 use differential::tape::Sort;
 
@@ -23,46 +24,65 @@ fn made(expander: &Expander, operation: Operation, response: &Response, out: Opt
     Ok(Done::Well)
 }
 
-/// Says how the tape of a file was refused, and where if its text is there.
-fn refused(
-    expander: &Expander,
-    operation: Operation,
-    response: &Response,
-    path: &str,
-    source: Option<&Source>,
-) -> Done {
-    say_who(expander, operation);
-    let said = refusal(response, source);
-    let is_pointed = said.starts_with(&format!("{path}:"));
-    say!("{}{said}", if is_pointed { String::new() } else { format!("{path}: ") });
-    Done::Refused
-}
-
 pub fn older(words: &[String]) -> Result<Done, String> {
     let args = Args::parse(words, &["-o", "--rule"], &["--macros"])?;
-    let [path] = args.words(1, 1, "older FILE [--macros] [--rule NAME] [-o TAPE]")? else { unreachable!("one word") };
+    let [path] = args.words(1, 1, "older")? else { unreachable!("one word") };
     let (operation, mut expander) = (archive::operation("older")?, Expander::default());
-    let response = expander.answer(&Case::new(operation, 0, vec![input::chosen(&args, path)?]));
-    match response.number() {
-        0 => made(&expander, operation, &response, args.value("-o")),
-        _ => Ok(refused(&expander, operation, &response, path, None)),
+    let case = Case::new(operation, 0, vec![input::chosen(&args, path)?]);
+    let response = expander.answer(&case);
+    if response.number() == 0 {
+        return made(&expander, operation, &response, args.value("-o"));
     }
+    say_who(&expander, operation);
+    // Standard input cannot be read again to find the place.
+    let Some(rules) = Rules::load(std::slice::from_ref(path)).ok().filter(|_| path != "-") else {
+        say!("{path}: {}", with_figure(&case, refusal(&response, None)));
+        return Ok(Done::Refused);
+    };
+    let rule = match args.value("--rule") {
+        Some(name) => Some(rules.named(name)?),
+        None => Some(0).filter(|_| rules.definitions.is_empty() && !args.has("--macros")),
+    };
+    let mut search = Search::new(&rules, &mut expander, 0, 0);
+    let found = match rule {
+        Some(i) => search.figures_of_rule(i).into_iter().find(|finding| finding.number == Some(response.number())),
+        None => search.registry_refusal(response.number())?,
+    };
+    Ok(refused(&case, &response, path, &rules, found))
 }
 
 pub fn merge(words: &[String]) -> Result<Done, String> {
     let args = Args::parse(words, &["-o"], &[])?;
-    let paths = args.words(2, 2, "merge FIRST SECOND [-o TAPE]")?;
+    let paths = args.words(2, 2, "merge")?;
     let load = |path: &String| Rules::load(std::slice::from_ref(path));
     let (first, second) = (load(&paths[0])?, load(&paths[1])?);
     let (operation, mut expander) = (archive::operation("merge")?, Expander::default());
     let tapes = vec![first.for_macros(), second.for_macros()];
-    let response = expander.answer(&Case::new(operation, 0, tapes.clone()));
+    let case = Case::new(operation, 0, tapes.clone());
+    let response = expander.answer(&case);
     if response.number() == 0 {
         return made(&expander, operation, &response, args.value("-o"));
     }
+    say_who(&expander, operation);
     // A refusal of the first comes before any other, and is the one that it has alone.
     let alone = Case::new(archive::operation("registry")?, 0, tapes[..1].to_vec());
     let is_first = expander.answer(&alone).number() != 0;
-    let (path, rules) = if is_first { (&paths[0], first) } else { (&paths[1], second) };
-    Ok(refused(&expander, operation, &response, path, rules.source.as_ref()))
+    let is_joined = matches!(figures::explained(&case), Some((Whose::Merged, _)));
+    let (path, rules) = if is_first { (&paths[0], &first) } else { (&paths[1], &second) };
+    let found = match is_joined {
+        true => mistakes::joined(&first, &second),
+        false => Search::new(rules, &mut expander, 0, 0).registry_refusal(response.number())?,
+    };
+    Ok(refused(&case, &response, path, rules, found))
+}
+
+/// Says how a tape was refused, and where if that was found.
+fn refused(case: &Case, response: &Response, path: &str, rules: &Rules, found: Option<Finding>) -> Done {
+    let said = match found {
+        Some(finding) => mistakes::text(rules, &finding),
+        None => with_figure(case, refusal(response, rules.only_source())),
+    };
+    let is_pointed = said.starts_with(&format!("{path}:"));
+    say!("{}{said}", if is_pointed { String::new() } else { format!("{path}: ") });
+    Done::Refused
 }

@@ -4,7 +4,7 @@
 use super::lex::{Kind, Mistake};
 use super::names;
 use super::parser::{Parser, is_word};
-use differential::tape::Node;
+use super::placed::{Place, Placed};
 
 /// What was read, with the part of the text that it takes.
 pub struct Parsed {
@@ -14,18 +14,19 @@ pub struct Parsed {
 }
 
 pub enum What {
-    Condition(Node),
-    Term(Node),
+    Condition(Placed),
+    Term(Placed),
     /// `?x` or `$t`, a condition or a term.
     Sigil {
         is_parameter: bool,
         name: Vec<u8>,
+        place: Place,
         span: u64,
         written: Option<u64>,
     },
     /// A 54, for a condition or a term; `outer` is the span of the 11 or 36 around it.
     Call {
-        call: Node,
+        call: Placed,
         outer: u64,
     },
 }
@@ -77,45 +78,51 @@ impl Level {
 }
 
 impl Parsed {
-    pub fn into_condition(self) -> Result<Node, Mistake> {
+    pub fn into_condition(self) -> Result<Placed, Mistake> {
         match self.what {
             What::Condition(node) => Ok(node),
-            What::Call { call, outer } => Ok(Node::new(11, outer, vec![call])),
-            What::Sigil { is_parameter, name, span, written } => {
-                let sigil = Node::with_text(if is_parameter { 58 } else { 59 }, &name);
-                Ok(Node::new(12, written.unwrap_or(span), vec![sigil]))
+            What::Call { call, outer } => Ok(Placed::new(11, outer, call.place, vec![call])),
+            What::Sigil { is_parameter, name, place, span, written } => {
+                let sigil = Placed::with_text(if is_parameter { 58 } else { 59 }, &name, place);
+                Ok(Placed::new(12, written.unwrap_or(span), place, vec![sigil]))
             }
             What::Term(_) => Err(Mistake::new(self.start, self.end, "expected a condition, found a term")),
         }
     }
 
-    pub fn into_term(self) -> Result<Node, Mistake> {
+    pub fn into_term(self) -> Result<Placed, Mistake> {
         match self.what {
             What::Term(node) => Ok(node),
-            What::Call { call, outer } => Ok(Node::new(30, 0, vec![Node::new(36, outer, vec![call])])),
+            What::Call { call, outer } => {
+                let place = call.place;
+                Ok(Placed::new(30, 0, place, vec![Placed::new(36, outer, place, vec![call])]))
+            }
             What::Sigil { written: Some(_), .. } => {
                 Err(Mistake::new(self.start, self.end, "expected no span: of the terms only aggregates have one"))
             }
-            What::Sigil { is_parameter, name, .. } => Ok(Node::with_text(if is_parameter { 32 } else { 33 }, &name)),
+            What::Sigil { is_parameter, name, place, .. } => {
+                Ok(Placed::with_text(if is_parameter { 32 } else { 33 }, &name, place))
+            }
             What::Condition(_) => Err(Mistake::new(self.start, self.end, "expected a term, found a condition")),
         }
     }
 
     /// What it is as an argument, if nothing says which: a call is a condition, a sigil is a term.
-    fn into_argument(self) -> Result<Node, Mistake> {
+    fn into_argument(self) -> Result<Placed, Mistake> {
+        let place = Place::new(self.start, self.end);
         match self.what {
-            What::Condition(_) | What::Call { .. } => Ok(Node::new(55, 0, vec![self.into_condition()?])),
-            What::Term(_) | What::Sigil { .. } => Ok(Node::new(56, 0, vec![self.into_term()?])),
+            What::Condition(_) | What::Call { .. } => Ok(Placed::new(55, 0, place, vec![self.into_condition()?])),
+            What::Term(_) | What::Sigil { .. } => Ok(Placed::new(56, 0, place, vec![self.into_term()?])),
         }
     }
 }
 
 impl Parser {
-    pub fn condition(&mut self) -> Result<Node, Mistake> {
+    pub fn condition(&mut self) -> Result<Placed, Mistake> {
         self.expression(Level::Whole)?.into_condition()
     }
 
-    pub fn term(&mut self) -> Result<Node, Mistake> {
+    pub fn term(&mut self) -> Result<Placed, Mistake> {
         self.expression(Level::Whole)?.into_term()
     }
 
@@ -140,8 +147,8 @@ impl Parser {
     }
 
     fn joined(&mut self, left: Parsed, operator: &str, level: Level) -> Result<Parsed, Mistake> {
-        let start = left.start;
-        let place = |among: &[&str]| among.iter().position(|o| *o == operator).expect("an operator of it") as u64;
+        let (start, sign) = (left.start, self.last());
+        let number = |among: &[&str]| among.iter().position(|o| *o == operator).expect("an operator of it") as u64;
         let what = match level {
             Level::Whole | Level::Or | Level::And => {
                 let sides = vec![left.into_condition()?, self.expression(level.next())?.into_condition()?];
@@ -154,15 +161,16 @@ impl Parser {
             }
             Level::Comparison => {
                 let left = left.into_term()?;
-                let parts =
-                    vec![Node::new(53, place(&COMPARISONS), vec![]), left, self.expression(level.next())?.into_term()?];
+                let operator = Placed::new(53, number(&COMPARISONS), sign, vec![]);
+                let parts = vec![operator, left, self.expression(level.next())?.into_term()?];
                 What::Condition(self.spanned(8, start, parts))
             }
             Level::Sum | Level::Product => {
                 let left = left.into_term()?;
                 // A product's right side is one factor: what is prefixed, and no operator.
                 let right = if level == Level::Sum { self.expression(Level::Product)? } else { self.prefixed()? };
-                What::Term(Node::new(31, place(&ARITHMETIC), vec![left, right.into_term()?]))
+                let sides = vec![left, right.into_term()?];
+                What::Term(Placed::new(31, number(&ARITHMETIC), self.place_from(start), sides))
             }
         };
         Ok(Parsed { what, start, end: self.end() })
@@ -171,6 +179,9 @@ impl Parser {
     /// What begins with a word or sign that belongs before it; otherwise what stands alone.
     fn prefixed(&mut self) -> Result<Parsed, Mistake> {
         let start = self.start();
+        if self.begins_at_margin() {
+            return self.expected("a condition or a term");
+        }
         let what = if self.symbol("!") {
             let inner = self.expression(Level::Comparison)?.into_condition()?;
             What::Condition(self.spanned(3, start, vec![inner]))
@@ -202,15 +213,17 @@ impl Parser {
             (34, vec![self.slot()?])
         };
         let mut binders = Vec::new();
+        let listed = self.start();
         if self.word("for") {
             binders.extend(self.binder()?);
             while self.symbol(",") {
                 binders.extend(self.binder()?);
             }
         }
+        let list = Placed::counted(41, 2, self.place_from(listed), binders);
         self.expect_word("where")?;
-        parts.extend([Node::counted(41, 2, binders), self.condition()?]);
-        Ok(What::Term(Node::new(30, 0, vec![self.spanned(code, start, parts)])))
+        parts.extend([list, self.condition()?]);
+        Ok(What::Term(Placed::new(30, 0, self.place_from(start), vec![self.spanned(code, start, parts)])))
     }
 
     /// What stands alone, with fields and spans behind it.
@@ -254,46 +267,46 @@ impl Parser {
     fn sigil(&mut self, is_parameter: bool, name: Vec<u8>) -> What {
         let start = self.start();
         self.at += 1;
-        What::Sigil { is_parameter, name, span: self.span_from(start), written: None }
+        What::Sigil { is_parameter, name, place: self.last(), span: self.span_from(start), written: None }
     }
 
     /// Numbers, arrays and the wildcard.
-    fn literal(&mut self) -> Result<Node, Mistake> {
-        match *self.peek() {
-            Kind::Number(_) => Ok(Node::new(21, self.integer()?, vec![])),
-            Kind::Symbol("-") if matches!(self.peek_at(1), Kind::Number(_)) => {
-                Ok(Node::new(21, self.integer()?, vec![]))
-            }
-            Kind::Symbol("*") => {
+    fn literal(&mut self) -> Result<Placed, Mistake> {
+        let ahead = usize::from(self.is_symbol("-"));
+        match *self.peek_at(ahead) {
+            Kind::Number(_) => self.integer(21),
+            Kind::Symbol("*") if ahead == 0 => {
                 self.at += 1;
-                Ok(Node::new(28, 0, vec![]))
+                Ok(Placed::new(28, 0, self.last(), vec![]))
             }
-            Kind::Symbol("[") => self.array(),
+            Kind::Symbol("[") if ahead == 0 => self.array(),
             _ => self.expected("a condition or a term"),
         }
     }
 
-    /// An integer with its sign, as 64 bits of two's complement.
-    fn integer(&mut self) -> Result<u64, Mistake> {
+    /// An entry of this code whose value is an integer with its sign, as 64 bits of two's complement.
+    fn integer(&mut self, code: u8) -> Result<Placed, Mistake> {
         let (start, negative) = (self.start(), self.symbol("-"));
         let amount = match self.take() {
             Kind::Number(amount) | Kind::Interval(amount, _) => amount,
             _ => return self.expected("a number"),
         };
         let signed = if negative { -i128::from(amount) } else { i128::from(amount) };
-        let value = i64::try_from(signed);
-        value.map(|n| n as u64).map_err(|_| Mistake::new(start, self.end(), "expected a number of 64 signed bits"))
+        let value = i64::try_from(signed)
+            .map_err(|_| Mistake::new(start, self.end(), "expected a number of 64 signed bits"))?;
+        Ok(Placed::new(code, value as u64, self.place_from(start), vec![]))
     }
 
     /// `[1, 2]`; `[1; 500, 2]` has 500 of the first.
-    fn array(&mut self) -> Result<Node, Mistake> {
+    fn array(&mut self) -> Result<Placed, Mistake> {
+        let start = self.start();
         self.expect("[", "")?;
         let items = self.list("]", |p| {
             let item = p.term()?;
             let count = if p.symbol(";") { p.number("how often the item stands there", 4096)? } else { 1 };
             Ok(vec![item; count as usize])
         })?;
-        Ok(Node::counted(29, 1, items.concat()))
+        Ok(Placed::counted(29, 1, self.place_from(start), items.concat()))
     }
 
     fn keyword(&mut self, word: &[u8]) -> Result<What, Mistake> {
@@ -301,7 +314,7 @@ impl Parser {
         let node = match word {
             b"true" | b"false" => {
                 self.at += 1;
-                Node::new(24, u64::from(word == b"true"), vec![])
+                Placed::new(24, u64::from(word == b"true"), self.last(), vec![])
             }
             b"context" | b"scope" | b"principal" | b"resource" => self.context(word)?,
             b"decimal" => {
@@ -310,7 +323,7 @@ impl Parser {
                 let Kind::Text(text) = self.peek().clone() else { return self.expected("the decimal in \"…\"") };
                 self.at += 1;
                 self.expect(")", "")?;
-                Node::with_text(22, &text)
+                Placed::with_text(22, &text, self.place_from(start))
             }
             b"tp" => {
                 self.at += 1;
@@ -325,18 +338,19 @@ impl Parser {
     }
 
     /// `context.a.b`, `principal.a`, `resource`, and `scope.a.b` for any other path.
-    fn context(&mut self, word: &[u8]) -> Result<Node, Mistake> {
+    fn context(&mut self, word: &[u8]) -> Result<Placed, Mistake> {
+        let start = self.start();
         self.at += 1;
         let mut path = Vec::new();
         if matches!(word, b"principal" | b"resource") {
-            path.push(Node::with_text(40, word));
+            path.push(self.texted(40, word));
         }
         while self.symbol(".") {
             let Kind::Name(text, _) = self.peek().clone() else { return self.expected("a field's name behind `.`") };
             self.at += 1;
-            path.push(Node::with_text(40, &text));
+            path.push(self.texted(40, &text));
         }
-        Ok(Node::counted(if word == b"context" { 25 } else { 26 }, 1, path))
+        Ok(Placed::counted(if word == b"context" { 25 } else { 26 }, 1, self.place_from(start), path))
     }
 
     /// What begins with a text in quotes: a string, or a predicate without namespace.
@@ -345,7 +359,7 @@ impl Parser {
             (Kind::Text(_), Kind::Symbol("::" | "{")) => self.predicate(self.start(), vec![]),
             (Kind::Text(text), _) => {
                 self.at += 1;
-                Ok(What::Term(Node::with_text(23, &text)))
+                Ok(What::Term(self.texted(23, &text)))
             }
             _ => self.expected("a text"),
         }
@@ -361,45 +375,45 @@ impl Parser {
             return Ok(What::Call { call, outer });
         }
         if self.is_symbol("{") {
-            return self.braced(start, vec![], name, vec![]);
+            let [action, kind] = [&name[..], b""].map(|text| self.texted(40, text));
+            return self.braced(start, vec![], action, kind);
         }
         if !self.is_symbol("::") {
-            return Ok(What::Term(Node::with_text(27, &name)));
+            return Ok(What::Term(self.texted(27, &name)));
         }
-        let mut path = vec![name];
+        let mut path = vec![self.texted(40, &name)];
         while self.symbol("::") {
             if let Kind::Text(text) = self.peek().clone() {
                 if matches!(self.peek_at(1), Kind::Symbol("::" | "{")) {
                     return self.predicate(start, path);
                 }
+                let names: Vec<&[u8]> = path.iter().map(|part| part.text.as_slice()).collect();
+                let of =
+                    Placed::with_text(40, &names.join(&b"::"[..]), Place::new(start, path[path.len() - 1].place.end));
                 self.at += 1;
-                let parts = vec![Node::with_text(40, &path.join(&b"::"[..])), Node::with_text(40, &text)];
-                return Ok(What::Term(Node::new(20, 0, parts)));
+                let parts = vec![of, self.texted(40, &text)];
+                return Ok(What::Term(Placed::new(20, 0, self.place_from(start), parts)));
             }
-            path.push(self.name("a name, or an action or id in \"…\"")?);
+            let name = self.name("a name, or an action or id in \"…\"")?;
+            path.push(self.texted(40, &name));
         }
         self.expected("`::` and an action or id in \"…\"")
     }
 
     /// The action in quotes, its kind and its fields.
-    fn predicate(&mut self, start: usize, namespace: Vec<Vec<u8>>) -> Result<What, Mistake> {
+    fn predicate(&mut self, start: usize, namespace: Vec<Placed>) -> Result<What, Mistake> {
         let Kind::Text(action) = self.take() else { return self.expected("an action in \"…\"") };
+        let action = self.texted(40, &action);
         let kind = if self.symbol("::") { self.any_name("a kind")? } else { vec![] };
+        let kind = self.texted(40, &kind);
         self.braced(start, namespace, action, kind)
     }
 
-    fn braced(
-        &mut self,
-        start: usize,
-        namespace: Vec<Vec<u8>>,
-        action: Vec<u8>,
-        kind: Vec<u8>,
-    ) -> Result<What, Mistake> {
+    fn braced(&mut self, start: usize, namespace: Vec<Placed>, action: Placed, kind: Placed) -> Result<What, Mistake> {
         let fields = self.fields()?;
-        let namespace = namespace.iter().map(|text| Node::with_text(40, text)).collect();
-        let [action, kind] = [action, kind].map(|text| Node::with_text(40, &text));
         let place = self.spanned(42, start, vec![]);
-        let parts = vec![place, Node::counted(41, 1, namespace), action, kind, fields];
+        let namespace = Placed::counted(41, 1, Place::new(start, action.place.end), namespace);
+        let parts = vec![place, namespace, action, kind, fields];
         Ok(What::Condition(self.spanned(7, start, parts)))
     }
 
@@ -411,40 +425,45 @@ impl Parser {
     }
 
     /// `{f: 1, input.user: x}`
-    fn fields(&mut self) -> Result<Node, Mistake> {
+    fn fields(&mut self) -> Result<Placed, Mistake> {
+        let start = self.start();
         self.expect("{", " and fields")?;
         let fields = self.list("}", |p| {
+            let start = p.start();
             let mut name = p.any_name("a field's name, or `}`")?;
             while p.symbol(".") {
                 name.push(b'.');
                 name.extend(p.any_name("a name behind `.`")?);
             }
+            let name = Placed::with_text(40, &name, p.place_from(start));
             p.expect(":", " behind the field's name")?;
-            Ok([Node::with_text(40, &name), p.term()?])
+            Ok([name, p.term()?])
         })?;
-        Ok(Node::counted(41, 2, fields.into_iter().flatten().collect()))
+        Ok(Placed::counted(41, 2, self.place_from(start), fields.into_iter().flatten().collect()))
     }
 
     /// The 54 of a call whose name was taken.
-    fn arguments(&mut self, start: usize, name: &[u8]) -> Result<Node, Mistake> {
+    fn arguments(&mut self, start: usize, name: &[u8]) -> Result<Placed, Mistake> {
+        let (name, listed) = (self.texted(40, name), self.start());
         self.expect("(", "")?;
         let arguments = self.list(")", Parser::argument)?;
-        let parts = vec![Node::with_text(40, name), Node::counted(41, 1, arguments)];
+        let parts = vec![name, Placed::counted(41, 1, self.place_from(listed), arguments)];
         Ok(self.spanned(54, start, parts))
     }
 
     /// An interval, a condition or a term; `condition` and `value` before it decide where it could be both.
-    fn argument(&mut self) -> Result<Node, Mistake> {
-        if self.is_interval() {
-            return Ok(Node::new(57, 0, vec![self.within()?]));
-        }
-        if self.word("condition") {
-            return Ok(Node::new(55, 0, vec![self.condition()?]));
-        }
-        if self.word("value") {
-            return Ok(Node::new(56, 0, vec![self.term()?]));
-        }
-        self.expression(Level::Whole)?.into_argument()
+    fn argument(&mut self) -> Result<Placed, Mistake> {
+        let start = self.start();
+        let (code, inner) = if self.is_interval() {
+            (57, self.within()?)
+        } else if self.word("condition") {
+            (55, self.condition()?)
+        } else if self.word("value") {
+            (56, self.term()?)
+        } else {
+            return self.expression(Level::Whole)?.into_argument();
+        };
+        Ok(Placed::new(code, 0, self.place_from(start), vec![inner]))
     }
 
     fn is_interval(&self) -> bool {
@@ -453,43 +472,49 @@ impl Parser {
     }
 
     /// `1h`, or `?d`
-    fn within(&mut self) -> Result<Node, Mistake> {
+    fn within(&mut self) -> Result<Placed, Mistake> {
         if let Kind::Parameter(name) = self.peek().clone() {
             self.at += 1;
-            return Ok(Node::with_text(52, &name));
+            return Ok(self.texted(52, &name));
         }
         let ahead = usize::from(self.is_symbol("-"));
         match *self.peek_at(ahead) {
-            Kind::Interval(_, code) => Ok(Node::new(code, self.integer()?, vec![])),
+            Kind::Interval(_, code) => self.integer(code),
             _ => self.expected("an interval such as 1h, or `?` and a parameter"),
         }
     }
 
-    pub fn slot(&mut self) -> Result<Node, Mistake> {
+    pub fn slot(&mut self) -> Result<Placed, Mistake> {
         let (code, name) = match self.peek().clone() {
             Kind::Parameter(name) => (44, name),
             Kind::Binder(name) => (45, name),
-            _ => return Ok(Node::with_text(43, &self.name("a variable")?)),
+            _ => (43, self.name("a variable")?),
         };
-        self.at += 1;
-        Ok(Node::with_text(code, &name))
+        self.at += usize::from(code != 43);
+        Ok(self.texted(code, &name))
     }
 
     /// A slot and its type, which is a timepoint's if none is written.
-    fn binder(&mut self) -> Result<[Node; 2], Mistake> {
+    fn binder(&mut self) -> Result<[Placed; 2], Mistake> {
         let slot = self.slot()?;
         if !self.symbol(":") || self.word("Timepoint") {
-            return Ok([slot, Node::new(46, 0, vec![])]);
+            return Ok([slot, Placed::new(46, 0, self.last(), vec![])]);
         }
+        let start = self.start();
         let mut path = Vec::new();
         if self.symbol("(") {
             self.expect(")", ": a type without a name is `()`")?;
         } else {
-            path.push(Node::with_text(40, &self.name("a type")?));
+            path.push(self.type_name()?);
             while self.symbol("::") {
-                path.push(Node::with_text(40, &self.name("a type")?));
+                path.push(self.type_name()?);
             }
         }
-        Ok([slot, Node::counted(47, 1, path)])
+        Ok([slot, Placed::counted(47, 1, self.place_from(start), path)])
+    }
+
+    fn type_name(&mut self) -> Result<Placed, Mistake> {
+        let name = self.name("a type")?;
+        Ok(self.texted(40, &name))
     }
 }

@@ -8,11 +8,13 @@ pub struct Mistake {
     pub start: usize,
     pub end: usize,
     pub what: String,
+    /// What was probably meant.
+    pub meant: Option<String>,
 }
 
 impl Mistake {
     pub fn new(start: usize, end: usize, what: impl Into<String>) -> Mistake {
-        Mistake { start, end, what: what.into() }
+        Mistake { start, end, what: what.into(), meant: None }
     }
 }
 
@@ -30,6 +32,8 @@ pub enum Kind {
     /// `$t`
     Binder(Vec<u8>),
     Symbol(&'static str),
+    /// What begins nothing, or is cut off: a mistake of its own.
+    Bad,
     End,
 }
 
@@ -38,6 +42,8 @@ pub struct Token {
     pub kind: Kind,
     pub start: usize,
     pub end: usize,
+    /// How many characters stand before it, if those are blanks alone.
+    pub indent: Option<usize>,
 }
 
 /// Longer ones first, so that `==` is not read as `=` twice.
@@ -52,15 +58,22 @@ const MARK: char = '\u{FEFF}';
 /// The units of an interval with their codes.
 pub const UNITS: [(&str, u8); 5] = [("s", 48), ("m", 49), ("h", 50), ("d", 51), ("w", 64)];
 
-pub fn tokens(text: &str) -> Result<Vec<Token>, Mistake> {
+/// The tokens of a text, with a bad one for each mistake.
+pub fn tokens(text: &str) -> (Vec<Token>, Vec<Mistake>) {
     let mut lexer = Lexer { text, at: 0 };
-    let mut tokens = Vec::new();
+    let (mut tokens, mut mistakes) = (Vec::new(), Vec::new());
     loop {
-        let token = lexer.next()?;
-        let is_last = token.kind == Kind::End;
-        tokens.push(token);
+        lexer.skip_blanks();
+        let (start, indent) = (lexer.at, lexer.indent());
+        let kind = lexer.next().unwrap_or_else(|mistake| {
+            lexer.at = lexer.at.max(mistake.end);
+            mistakes.push(mistake);
+            Kind::Bad
+        });
+        let is_last = kind == Kind::End;
+        tokens.push(Token { kind, start, end: lexer.at, indent });
         if is_last {
-            return Ok(tokens);
+            return (tokens, mistakes);
         }
     }
 }
@@ -75,18 +88,21 @@ impl Lexer<'_> {
         &self.text[self.at..]
     }
 
-    fn next(&mut self) -> Result<Token, Mistake> {
-        self.skip_blanks();
-        let start = self.at;
-        let kind = match self.rest().chars().next() {
-            None => Kind::End,
-            Some(c) if c.is_ascii_digit() => self.number()?,
-            Some('"') => Kind::Text(self.in_quotes('"')?),
-            Some('\'') => Kind::Name(self.in_quotes('\'')?, true),
-            Some(c @ ('?' | '$')) => self.sigil(c)?,
-            Some(_) => self.name_or_symbol()?,
-        };
-        Ok(Token { kind, start, end: self.at })
+    fn next(&mut self) -> Result<Kind, Mistake> {
+        match self.rest().chars().next() {
+            None => Ok(Kind::End),
+            Some(c) if c.is_ascii_digit() => self.number(),
+            Some('"') => self.in_quotes('"').map(Kind::Text),
+            Some('\'') => self.in_quotes('\'').map(|text| Kind::Name(text, true)),
+            Some(c @ ('?' | '$')) => self.sigil(c),
+            Some(_) => self.name_or_symbol(),
+        }
+    }
+
+    fn indent(&self) -> Option<usize> {
+        let before = &self.text[..self.at];
+        let line = &before[before.rfind('\n').map_or(0, |end| end + 1)..];
+        line.trim_start_matches(MARK).chars().all(char::is_whitespace).then(|| line.chars().count())
     }
 
     /// Blanks, line ends, and comments from `//` to the end of a line.
@@ -159,28 +175,32 @@ impl Lexer<'_> {
         Ok(Kind::Interval(amount, code))
     }
 
-    /// What stands in quotes, its escapes resolved.
+    /// What stands in quotes, its escapes resolved. It ends where its line ends, since no text on a tape may have a line's
+    /// end as it is, and what stands on the next line is seldom meant to belong to it.
     fn in_quotes(&mut self, quote: char) -> Result<Vec<u8>, Mistake> {
         let start = self.at;
         self.at += 1;
-        let mut text = Vec::new();
-        let mut last = Vec::new();
+        let (mut text, mut last) = (Vec::new(), Vec::new());
+        // A bad escape is told when the end is found, so that what stands behind it is not taken for something else.
+        let mut wrong = None;
         loop {
-            let Some(c) = self.rest().chars().next() else {
+            let Some(c) = self.rest().chars().next().filter(|c| *c != '\n') else {
                 return Err(Mistake::new(start, self.at, format!("expected `{quote}` at the end of this text")));
             };
             self.at += c.len_utf8();
-            match c {
-                _ if c == quote => return Ok(text),
-                '\\' if self.rest().starts_with('{') => {
-                    let again = self.repeat()?.saturating_sub(1);
-                    text.extend(last.repeat(again));
-                    continue;
+            let piece = match c {
+                _ if c == quote => return wrong.map_or(Ok(text), Err),
+                '\\' if self.rest().starts_with('{') => self.repeat().map(|count| last.repeat(count.saturating_sub(1))),
+                '\\' => self.escape().inspect(|piece| last.clone_from(piece)),
+                _ => {
+                    last = c.to_string().into_bytes();
+                    Ok(last.clone())
                 }
-                '\\' => last = self.escape()?,
-                _ => last = c.to_string().into_bytes(),
+            };
+            match piece {
+                Ok(piece) => text.extend(piece),
+                Err(mistake) => wrong = wrong.or(Some(mistake)),
             }
-            text.extend_from_slice(&last);
         }
     }
 
@@ -223,7 +243,9 @@ mod tests {
     use super::*;
 
     fn kinds(text: &str) -> Vec<Kind> {
-        tokens(text).expect("tokens").into_iter().map(|token| token.kind).collect()
+        let (tokens, mistakes) = tokens(text);
+        assert_eq!(mistakes, []);
+        tokens.into_iter().map(|token| token.kind).collect()
     }
 
     #[test]
@@ -243,11 +265,24 @@ mod tests {
 
     #[test]
     fn mistakes_have_a_place() {
-        let place = |text: &str| tokens(text).map_err(|m| (m.start, m.end)).expect_err("a mistake");
+        let place = |text: &str| tokens(text).1.first().map(|m| (m.start, m.end)).expect("a mistake");
         assert_eq!(place("a 5y"), (2, 4));
         assert_eq!(place("a ? b"), (2, 3));
         assert_eq!(place("a \"b"), (2, 4));
         assert_eq!(place("99999999999999999999"), (0, 20));
         assert_eq!(place("a ~"), (2, 3));
+        assert_eq!(place("'a\nb'"), (0, 2));
+        assert_eq!(place("a 'b\\q\\z' c"), (4, 5));
+    }
+
+    #[test]
+    fn behind_a_mistake_the_next_token_follows() {
+        let (tokens, mistakes) = tokens("a 5y 'b\\qc' ~\n  \"d\ne");
+        let kinds: Vec<Kind> = tokens.iter().map(|token| token.kind.clone()).collect();
+        let name = |text: &[u8]| Kind::Name(text.to_vec(), false);
+        assert_eq!(kinds, [name(b"a"), Kind::Bad, Kind::Bad, Kind::Bad, Kind::Bad, name(b"e"), Kind::End]);
+        assert_eq!(mistakes.len(), 4);
+        let indents: Vec<Option<usize>> = tokens.iter().map(|token| token.indent).collect();
+        assert_eq!(indents, [Some(0), None, None, None, Some(2), Some(0), None]);
     }
 }

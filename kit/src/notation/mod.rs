@@ -3,12 +3,15 @@
 mod expression;
 mod items;
 mod lex;
+mod meant;
 mod names;
 mod parser;
+mod placed;
 mod print;
 mod spans;
 
-pub use items::{Document, Rule, parse};
+pub use items::{Document, PlacedItems, Reading, Rule, parse, read};
 pub use lex::Mistake;
 pub use names::{name, quoted};
+pub use placed::{Place, Placed};
 pub use print::{Spans, print, print_items, print_lines, print_root, spans_of};

@@ -2,7 +2,7 @@
 
 use super::lex::{Kind, Mistake, Token};
 use super::names;
-use differential::tape::{self, Node};
+use super::placed::{Place, Placed};
 
 pub struct Parser {
     pub tokens: Vec<Token>,
@@ -85,6 +85,7 @@ impl Parser {
         let token = &self.tokens[self.at];
         let found = match &token.kind {
             Kind::End => "the end".to_string(),
+            Kind::Bad => "what is none".to_string(),
             Kind::Name(text, false) => format!("`{}`", String::from_utf8_lossy(text)),
             Kind::Name(text, true) => names::quoted(text, '\''),
             Kind::Text(text) => names::quoted(text, '"'),
@@ -94,6 +95,11 @@ impl Parser {
             Kind::Binder(name) => format!("`${}`", names::name(name)),
             Kind::Symbol(symbol) => format!("`{symbol}`"),
         };
+        if self.begins_at_margin() && self.at > 0 {
+            // What is missing is missing behind what stands before.
+            let what = format!("expected {what}, found {found}, which begins what follows");
+            return Err(Mistake::new(self.end(), self.end(), what));
+        }
         Err(Mistake::new(token.start, token.end, format!("expected {what}, found {found}")))
     }
 
@@ -124,11 +130,27 @@ impl Parser {
 
     /// The span of what stands from `start` to the token that was taken last.
     pub fn span_from(&self, start: usize) -> u64 {
-        self.written_default.unwrap_or_else(|| tape::span(start as u32, self.end() as u32))
+        self.written_default.unwrap_or_else(|| self.place_from(start).span())
     }
 
-    pub fn spanned(&self, code: u8, start: usize, children: Vec<Node>) -> Node {
-        Node::new(code, self.span_from(start), children)
+    /// From `start` to the end of the token that was taken last.
+    pub fn place_from(&self, start: usize) -> Place {
+        Place::new(start, self.end().max(start))
+    }
+
+    /// The token that was taken last.
+    pub fn last(&self) -> Place {
+        let last = &self.tokens[self.at.saturating_sub(1)];
+        Place::new(last.start, last.end)
+    }
+
+    pub fn spanned(&self, code: u8, start: usize, children: Vec<Placed>) -> Placed {
+        Placed::new(code, self.span_from(start), self.place_from(start), children)
+    }
+
+    /// An entry with the text of the token that was taken last.
+    pub fn texted(&self, code: u8, text: &[u8]) -> Placed {
+        Placed::with_text(code, text, self.last())
     }
 
     /// Runs a part that can hold itself. A text that nests without end is a mistake of its own.

@@ -3,7 +3,8 @@
 use super::expression::{Parsed, What};
 use super::lex::Mistake;
 use super::parser::Parser;
-use differential::tape::{self, Node};
+use super::placed::Placed;
+use differential::tape;
 
 /// The spans of an annotation: of the condition or aggregate, and the predicate's, refinement's or call's own.
 pub struct Written {
@@ -57,7 +58,7 @@ impl Written {
     pub fn apply(&self, to: &mut Parsed) -> Result<(), Mistake> {
         match &mut to.what {
             What::Condition(node) if matches!(node.code, 7 | 13) => {
-                let Node { value, children, .. } = node;
+                let Placed { value, children, .. } = node;
                 self.both(value, &mut children[0].value);
             }
             What::Condition(node) => node.value = self.single("this condition")?,

@@ -6,12 +6,13 @@ use crate::reading;
 use crate::serve::Hello;
 use differential::case::{COUNTS, Case, OPERATIONS, Operation};
 use differential::generate;
-use std::collections::VecDeque;
 use std::path::Path;
 
 /// Where a case is from.
 #[derive(Clone, Debug, PartialEq, Eq)]
 pub enum Origin {
+    /// A case of a file of found ones, from 1, and where it is from.
+    Found(String, usize, String),
     Corpus(String, u32),
     Seed(u64, u64),
 }
@@ -19,6 +20,7 @@ pub enum Origin {
 impl std::fmt::Display for Origin {
     fn fmt(&self, f: &mut std::fmt::Formatter) -> std::fmt::Result {
         match self {
+            Origin::Found(file, i, from) => write!(f, "case {i} of {file} ({from})"),
             Origin::Corpus(file, id) => write!(f, "case {id} of {file}"),
             Origin::Seed(seed, index) => write!(f, "case {index} of seed {seed}"),
         }
@@ -60,12 +62,12 @@ impl Common {
             return None;
         }
         if !self.utf8 {
-            case.tapes.iter_mut().for_each(make_ascii);
+            case.tapes.iter_mut().for_each(|tape| make_ascii(tape));
         }
         case.sizes = if self.sizes { case.sizes } else { case.operation.buffers() };
         case.file = if self.files { case.file } else { 0 };
         case.counts = if self.counts { case.counts } else { [0; COUNTS] };
-        Some(case)
+        protocol::cut_to_fit(case)
     }
 
     /// The case as each of the heads is sent it: as it is, or with its tapes' older tapes, if they have such.
@@ -76,7 +78,7 @@ impl Common {
 }
 
 /// Puts a letter for each byte of a tape's text that is not ASCII. What is no tape has no text.
-fn make_ascii(tape: &mut Vec<u8>) {
+fn make_ascii(tape: &mut [u8]) {
     let Ok(length) = reading::sections(tape).map(|sections| sections.text.len()) else { return };
     let start = tape.len() - length;
     tape[start..].iter_mut().filter(|byte| !byte.is_ascii()).for_each(|byte| *byte = b'a' + *byte % 26);
@@ -96,46 +98,41 @@ fn older(case: &Case, expander: &mut Expander) -> Option<Case> {
     Some(older)
 }
 
+/// The cases in their order: place 0 is the first.
 pub struct Cases {
-    corpus: VecDeque<(Origin, Case)>,
+    corpus: Vec<(Origin, Case)>,
     seed: u64,
-    next: u64,
-    end: u64,
+    from: u64,
+    count: u64,
     only: Vec<Operation>,
 }
 
 impl Cases {
     /// The corpus files of these folders, and so many cases of the seed.
     pub fn new(corpora: &[String], seed: u64, from: u64, count: u64, common: &Common) -> Result<Cases, String> {
-        let mut corpus = VecDeque::new();
+        let mut corpus = Vec::new();
         for folder in corpora {
             corpus.extend(read_corpus(folder)?);
         }
-        Ok(Cases { corpus, seed, next: from, end: from.saturating_add(count), only: common.operations.clone() })
+        let count = count.min((u64::MAX - from).saturating_sub(corpus.len() as u64));
+        Ok(Cases { corpus, seed, from, count, only: common.operations.clone() })
     }
 
     /// How many there are, those that no head takes among them.
-    pub fn left(&self) -> u64 {
-        self.corpus.len() as u64 + (self.end - self.next)
+    pub fn len(&self) -> u64 {
+        self.corpus.len() as u64 + self.count
     }
-}
 
-impl Iterator for Cases {
-    type Item = (Origin, Option<Case>);
-
-    /// Nothing in the place of a case that need not be made, as its operation is not in common.
-    fn next(&mut self) -> Option<Self::Item> {
-        if let Some((origin, case)) = self.corpus.pop_front() {
-            return Some((origin, Some(case)));
-        }
-        if self.next == self.end {
-            return None;
-        }
-        let index = self.next;
-        self.next += 1;
+    /// The case at a place. Nothing in the place of one that need not be made, as its operation is not in common.
+    pub fn at(&self, place: u64) -> (Origin, Option<Case>) {
+        let behind = place.checked_sub(self.corpus.len() as u64);
+        let Some(index) = behind.map(|behind| self.from + behind) else {
+            let (origin, case) = self.corpus[place as usize].clone();
+            return (origin, Some(case));
+        };
         let is_common = self.only.contains(&generate::operation(self.seed, index));
         let case = is_common.then(|| generate::case(self.seed, index));
-        Some((Origin::Seed(self.seed, index), case))
+        (Origin::Seed(self.seed, index), case)
     }
 }
 

@@ -6,7 +6,7 @@ use crate::response::Response;
 use differential::tape::Value;
 
 /// What two outcomes differ in first.
-#[derive(Clone, Debug, PartialEq, Eq)]
+#[derive(Clone, Copy, Debug, PartialEq, Eq, PartialOrd, Ord)]
 pub enum Difference {
     /// One of them is no answer.
     Failure,
@@ -40,14 +40,44 @@ pub fn difference(a: &Outcome, b: &Outcome, compared: Compared) -> Option<Differ
     differs.into_iter().find(|(is, _)| *is).map(|(_, what)| what)
 }
 
+impl Difference {
+    /// The field of an answer that differs.
+    pub fn field(self) -> &'static str {
+        match self {
+            Difference::Failure => "answer",
+            Difference::Number => "number",
+            Difference::Span => "span",
+            Difference::Charged => "charge",
+            Difference::Size => "sizes",
+            Difference::Result => "result",
+            Difference::Message => "message",
+            Difference::Counts => "counts",
+        }
+    }
+}
+
 /// The first entry in which two results differ, in words.
 pub fn first_entry(a: &Response, b: &Response) -> String {
     let [a, b] = [a, b].map(|response| entries(&response.result));
     let (Ok(a), Ok(b)) = (a, b) else { return "one of the results is no tape".to_string() };
-    let place = (0..a.len().max(b.len())).find(|i| a.get(*i) != b.get(*i));
-    let Some(i) = place else { return "the entries are equal, what stands behind them is not".to_string() };
+    let Some(i) = first_place(&a, &b) else {
+        return "the entries are equal, what stands behind them is not".to_string();
+    };
     let shown = |entries: &[String]| entries.get(i).cloned().unwrap_or("nothing".to_string());
     format!("entry {} is {} in A, {} in B", i + 1, shown(&a), shown(&b))
+}
+
+fn first_place(a: &[String], b: &[String]) -> Option<usize> {
+    (0..a.len().max(b.len())).find(|i| a.get(*i) != b.get(*i))
+}
+
+/// The codes of that entry in both, none in one that has ended before; nothing if no entry differs, or one is no tape.
+pub fn first_codes(a: &Response, b: &Response) -> Option<[Option<u8>; 2]> {
+    let [a, b] = [a, b].map(|response| entries(&response.result).ok());
+    let (a, b) = (a?, b?);
+    let i = first_place(&a, &b)?;
+    let code = |entries: &[String]| entries.get(i)?.split(' ').next()?.parse().ok();
+    Some([code(&a), code(&b)])
 }
 
 /// The first entry in which a result differs from ours, whatever names either has in the places of variables.

@@ -43,6 +43,23 @@ pub fn without_parameter(node: &mut Node, names: &[Vec<u8>], place: usize, inlin
     node.children.iter_mut().for_each(|child| without_parameter(child, names, place, inlined));
 }
 
+/// Puts the plainest for a parameter in the body of the definition of such a name, and for its argument in the calls. Where
+/// a call is all that matters, neither has to fit the other; one of them alone would be refused for that.
+pub fn unused(node: &mut Node, names: &[Vec<u8>], place: usize) {
+    node.children.iter_mut().for_each(|child| unused(child, names, place));
+    let is_named = matches!(node.code, 54 | 60) && names.contains(&node.children[0].text);
+    if !is_named || node.children[1].value as usize <= place {
+        return;
+    }
+    if node.code == 60 {
+        let parameter = node.children[1].children[2 * place + 1].text.clone();
+        inline(&mut node.children[2], &parameter, &plain::holding(55, plain::tp()));
+        inline(&mut node.children[2], &parameter, &plain::holding(56, plain::wildcard()));
+    } else if !plain::is_call(&node.children[1].children[place]) {
+        node.children[1].children[place] = plain::holding(56, plain::wildcard());
+    }
+}
+
 /// Puts an argument where the parameter stands in places of the argument's kind.
 fn inline(node: &mut Node, parameter: &[u8], argument: &Node) {
     let inner = &argument.children[0];

@@ -1,9 +1,16 @@
 //! Two heads side by side.
 
+mod blocks;
 mod cases;
+mod cause;
+mod complaints;
 mod difference;
 mod edits;
+mod formats;
+mod found;
+mod heads;
 mod limits;
+mod malformed;
 mod operations;
 mod plain;
 mod process;
@@ -15,10 +22,14 @@ mod shrink;
 mod simpler;
 
 pub use cases::Origin;
+pub use cause::Cause;
 pub use difference::{Compared, Difference, difference, first_entry_but_names};
+pub use formats::{is_equal, json, junit};
+pub use heads::NoHello;
+pub use limits::of_shape as figures;
 pub use process::{Failure, Outcome, Process};
-pub use progress::{clock, grouped};
-pub use report::report;
-pub use run::{Found, Pairing, Plan, pair};
+pub use progress::{Progress, clock, grouped};
+pub use report::{of_no_hello, summary, text};
+pub use run::{Found, Gathered, Pairing, Plan, State, Went, pair};
 pub use shape::Shape;
 pub use shrink::{Effort, Shrunk, shrink};

@@ -59,6 +59,11 @@ pub fn cedar(name: &[u8], parameters: &[&[u8]]) -> Node {
     definition(name, parameters, Node::new(61, 0, vec![]))
 }
 
+/// Whether an argument is a call.
+pub fn is_call(argument: &Node) -> bool {
+    matches!(argument.children[0].code, 11) || argument.children[0].children.first().is_some_and(|part| part.code == 36)
+}
+
 pub fn registry(definitions: Vec<Node>) -> Node {
     Node::counted(41, 1, definitions)
 }

@@ -1,10 +1,12 @@
 //! A head that runs as a program of its own. Whatever it does, hang, die or send garbage, is an answer here.
 
+use super::complaints::Complaints;
 use crate::protocol;
 use crate::response::Response;
 use crate::serve::Hello;
 use differential::case::Case;
 use std::io::{BufReader, Read, Write};
+use std::os::unix::process::CommandExt;
 use std::process::{Child, ChildStdin, ChildStdout, Command, Stdio};
 use std::sync::mpsc::{Receiver, RecvTimeoutError, Sender, channel};
 use std::sync::{Arc, Mutex};
@@ -30,11 +32,10 @@ impl std::fmt::Display for Failure {
 }
 
 impl Failure {
-    /// What the shell says where it found no such program, or none that it may start.
-    pub fn missing(&self) -> Option<&str> {
-        let Failure::Dies(how) = self else { return None };
-        let (status, said) = how.split_once("; ").unwrap_or((how, how));
-        ["exit status: 126", "exit status: 127"].contains(&status).then_some(said)
+    /// Whether the shell found no such program, or none that it may start.
+    pub fn is_missing(&self) -> bool {
+        let missing = ["exit status: 126", "exit status: 127"];
+        matches!(self, Failure::Dies(how) if missing.contains(&how.as_str()))
     }
 }
 
@@ -54,11 +55,12 @@ type Incoming = Result<Vec<u8>, Failure>;
 
 struct Running {
     child: Child,
-    requests: Sender<Vec<u8>>,
+    keeper: Child,
+    /// Until it is told that there are no more.
+    requests: Option<Sender<Vec<u8>>>,
     responses: Receiver<Incoming>,
-    /// The end of what it wrote to standard error.
-    complaints: Arc<Mutex<Vec<u8>>>,
-    /// Reads it, as long as something is written there.
+    complaints: Arc<Mutex<Complaints>>,
+    /// Reads what it writes to standard error, as long as it does.
     complaining: JoinHandle<()>,
 }
 
@@ -79,8 +81,12 @@ impl Process {
 
     pub fn send(&mut self, case: &Case) {
         let id = self.take_id();
-        // A head that is gone is noticed when its answer is missed.
-        let _ = self.running.requests.send(protocol::request(id, case));
+        self.put(protocol::request(id, case));
+    }
+
+    /// A head that is gone is noticed when its answer is missed.
+    fn put(&self, request: Vec<u8>) {
+        let _ = self.running.requests.as_ref().map(|requests| requests.send(request));
     }
 
     fn take_id(&mut self) -> u32 {
@@ -116,11 +122,26 @@ impl Process {
         Ok(outcome)
     }
 
+    /// One case asked of it just started, and what it wrote to standard error from its start to its end.
+    pub fn ask_alone(&mut self, case: &Case) -> Result<(Outcome, Complaints), String> {
+        self.restart()?;
+        self.send(case);
+        let outcome = self.receive();
+        let complaints = self.running.all_complaints();
+        self.restart()?;
+        Ok((outcome, complaints))
+    }
+
     pub fn hello(&mut self) -> Result<Hello, Failure> {
         let id = self.take_id();
-        let _ = self.running.requests.send(protocol::hello(id));
+        self.put(protocol::hello(id));
         let response = self.receive()?;
         Hello::parse(&response.result).map_err(Failure::Garbage)
+    }
+
+    /// What it has written to standard error so far.
+    pub fn complaints(&self) -> Complaints {
+        self.running.complaints()
     }
 }
 
@@ -137,46 +158,75 @@ impl Running {
             .stdin(Stdio::piped())
             .stdout(Stdio::piped())
             .stderr(Stdio::piped())
+            .process_group(0)
             .spawn()
             .map_err(|e| format!("{command}: {e}"))?;
+        let keeper = keeper(child.id()).map_err(|e| {
+            let _ = child.kill();
+            format!("sh: {e}")
+        })?;
         let (requests, to_write) = channel();
         let (received, responses) = channel();
-        let complaints = Arc::new(Mutex::new(Vec::new()));
+        let complaints = Arc::new(Mutex::new(Complaints::default()));
         let (stdin, stdout) = (child.stdin.take().expect("piped"), child.stdout.take().expect("piped"));
         let (stderr, kept) = (child.stderr.take().expect("piped"), complaints.clone());
         thread::spawn(move || write_all(stdin, &to_write));
         thread::spawn(move || read_all(stdout, &received));
-        let complaining = thread::spawn(move || keep_end(stderr, &kept));
-        Ok(Running { child, requests, responses, complaints, complaining })
+        let complaining = thread::spawn(move || keep(stderr, &kept));
+        Ok(Running { child, keeper, requests: Some(requests), responses, complaints, complaining })
     }
 
+    /// Ends it, and whatever it has started.
     fn end(&mut self) {
+        drop(self.keeper.stdin.take());
+        let _ = self.keeper.wait();
         let _ = self.child.kill();
         let _ = self.child.wait();
     }
 
-    /// For a stream that ended: how the program ended, and what it complained of last.
+    /// For a stream that ended: how the program ended. It has closed its output; it is given a moment to end.
     fn with_status(&mut self, failure: Failure) -> Failure {
         let Failure::Dies(how) = failure else { return failure };
-        // It has closed its output; it is given a moment to end, and then what it wrote to standard error one to be read.
         let status = in_a_moment(|| self.child.try_wait().ok().flatten());
         if status.is_some() {
-            in_a_moment(|| self.complaining.is_finished().then_some(()));
+            self.wait_for_complaints();
         }
         let status = status.map_or("its output is closed".to_string(), |status| status.to_string());
-        let complaints = self.complaints.lock().map(|bytes| String::from_utf8_lossy(&bytes).trim().to_string());
-        let last = complaints.ok().and_then(|text| text.lines().last().map(str::to_string)).unwrap_or_default();
-        let parts = [status, how, last].into_iter().filter(|part| !part.is_empty());
+        let parts = [status, how].into_iter().filter(|part| !part.is_empty());
         Failure::Dies(parts.collect::<Vec<_>>().join("; "))
     }
+
+    fn complaints(&self) -> Complaints {
+        self.complaints.lock().map(|kept| kept.clone()).unwrap_or_default()
+    }
+
+    /// What it has written to standard error once it was told that there are no more requests, and had a moment to end.
+    fn all_complaints(&mut self) -> Complaints {
+        self.requests = None;
+        self.wait_for_complaints();
+        self.complaints()
+    }
+
+    /// What a program wrote before it ended has a moment to be read.
+    fn wait_for_complaints(&self) {
+        in_a_moment(|| self.complaining.is_finished().then_some(()));
+    }
+}
+
+/// A shell that ends a group of processes as soon as its own input is closed: by the kit, or by whatever ends the kit. A
+/// head that hangs does not outlive the kit, nor what such a head has started.
+fn keeper(group: u32) -> std::io::Result<Child> {
+    let mut command = Command::new("sh");
+    command.args(["-c", "read -r line; kill -KILL \"-$0\"", &group.to_string()]);
+    command.stdin(Stdio::piped()).stdout(Stdio::null()).stderr(Stdio::null()).process_group(0).spawn()
 }
 
 /// What comes of asking again and again for half a second, if something does.
 fn in_a_moment<T>(mut ask: impl FnMut() -> Option<T>) -> Option<T> {
-    (0..50).find_map(|_| {
+    (0..250).find_map(|_| {
         let answer = ask();
         if answer.is_none() {
-            thread::sleep(Duration::from_millis(10));
+            thread::sleep(Duration::from_millis(2));
         }
         answer
     })
@@ -210,15 +260,10 @@ fn read_all(stdout: ChildStdout, received: &Sender<Incoming>) {
     }
 }
 
-/// So much of what a head writes to standard error is kept.
-const KEPT: usize = 2048;
-
-fn keep_end(mut stderr: impl Read, kept: &Mutex<Vec<u8>>) {
-    let mut bytes = [0; KEPT];
+fn keep(mut stderr: impl Read, kept: &Mutex<Complaints>) {
+    let mut bytes = [0; 4096];
     while let Ok(n @ 1..) = stderr.read(&mut bytes) {
         let Ok(mut kept) = kept.lock() else { return };
-        kept.extend_from_slice(&bytes[..n]);
-        let start = kept.len().saturating_sub(KEPT);
-        kept.drain(..start);
+        kept.add(&bytes[..n]);
     }
 }

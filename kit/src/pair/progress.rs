@@ -1,5 +1,7 @@
 //! The line that says how far a pairing is.
 
+use super::cases::Origin;
+use super::shrink::Effort;
 use std::io::{IsTerminal, Write};
 use std::time::{Duration, Instant};
 
@@ -17,15 +19,23 @@ impl Progress {
         Progress { total, since: now, last: now, on_terminal: std::io::stderr().is_terminal(), quiet }
     }
 
-    /// Twice a second on a terminal, otherwise a line every ten seconds.
+    /// Twice a second on a terminal. A file or another program is not told.
     pub fn show(&mut self, done: u64) {
-        let pause = Duration::from_millis(if self.on_terminal { 500 } else { 10_000 });
-        if self.quiet || self.last.elapsed() < pause {
+        self.put(|progress| line(done, progress.total, progress.since.elapsed()));
+    }
+
+    /// While a difference is made smaller, how much of what may be done for it is done.
+    pub fn show_tries(&mut self, origin: &Origin, tries: usize, effort: Effort) {
+        let (tries, most) = (grouped(tries as u64), grouped(effort.tries as u64));
+        self.put(|_| format!("making {origin} smaller: {tries} tries of {most} at the most"));
+    }
+
+    fn put(&mut self, line: impl Fn(&Progress) -> String) {
+        if self.quiet || !self.on_terminal || self.last.elapsed() < Duration::from_millis(500) {
             return;
         }
         self.last = Instant::now();
-        let (before, after) = if self.on_terminal { ("\r", "\x1B[K") } else { ("", "\n") };
-        let _ = write!(std::io::stderr(), "{before}{}{after}", line(done, self.total, self.since.elapsed()));
+        let _ = write!(std::io::stderr(), "\r{}\x1B[K", line(self));
     }
 
     /// The time it took; a line on a terminal is ended.

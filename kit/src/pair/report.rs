@@ -1,9 +1,14 @@
-//! A pairing in words: what ran, and the first difference as a rule.
+//! A pairing in words: what ran, and the differences as rules. It says nothing of time, so that it is the same wherever and
+//! in how many jobs the cases were run.
 
+use super::complaints::Complaints;
 use super::difference::{Difference, first_entry};
+use super::heads::NoHello;
+use super::limits;
 use super::process::Outcome;
-use super::progress::{clock, grouped};
-use super::run::{Found, Pairing};
+use super::progress::grouped;
+use super::run::{Found, Gathered, Pairing, State, Went};
+use super::shape::shortened;
 use crate::archive::{self, Expander, Who};
 use crate::commands::result_text;
 use crate::numbers;
@@ -11,35 +16,96 @@ use crate::reading;
 use crate::response::Response;
 use differential::case::Case;
 
-pub fn report(pairing: &Pairing, commands: &[String; 2]) -> String {
-    let mut lines = Vec::new();
-    for (i, letter) in ["A", "B"].iter().enumerate() {
-        lines.push(format!("{letter} is {} ({})", commands[i], pairing.hellos[i].name));
+pub const LETTERS: [&str; 2] = ["A", "B"];
+
+/// The report as text. The names are what the user calls the heads.
+pub fn text(went: &Went, names: &[String; 2]) -> String {
+    match went {
+        Ok(pairing) => of_pairing(pairing, names),
+        Err(no_hello) => of_no_hello(no_hello, names),
     }
-    let rate = pairing.ran as f64 / pairing.time.as_secs_f64().max(0.001);
-    let left_out = match pairing.left_out {
-        0 => String::new(),
-        n => format!(", {} left out as not for both", grouped(n)),
-    };
-    let ran = format!(
-        "{} cases in {}, {} a second{left_out}",
-        grouped(pairing.ran),
-        clock(pairing.time),
-        grouped(rate as u64)
-    );
-    match &pairing.found {
-        None => lines.push(format!("{ran}: no difference")),
-        Some(found) => {
-            lines.push(format!("{ran}: a difference in the last one, {}", found.origin));
-            lines.push(difference(found));
+}
+
+/// Which head does not say hello, and all that it wrote.
+pub fn of_no_hello((i, failure, complaints): &NoHello, names: &[String; 2]) -> String {
+    let said = format!("{} ({}) does not say hello: it {failure}", LETTERS[*i], names[*i]);
+    match complaints.one_line() {
+        Some(line) => format!("{said}; {line}"),
+        None => [vec![said], wrote(LETTERS[*i], complaints)].concat().join("\n"),
+    }
+}
+
+fn of_pairing(pairing: &Pairing, names: &[String; 2]) -> String {
+    let head = |i: usize| format!("{} is {} ({})", LETTERS[i], names[i], pairing.hellos[i].name);
+    let mut lines = vec![head(0), head(1)];
+    lines.extend(old_cases(pairing));
+    lines.push(summary(pairing));
+    lines.extend(pairing.ended.iter().map(|why| format!("It ended behind these: {why}.")));
+    for (i, gathered) in pairing.causes.iter().enumerate() {
+        lines.push(String::new());
+        if pairing.keep_going {
+            lines.push(format!("Cause {} of {}: {}", i + 1, pairing.causes.len(), gathered.cause));
+            lines.extend(cases(gathered));
         }
+        lines.push(difference(&gathered.found));
     }
     lines.join("\n")
 }
 
+/// A cause, how many cases show it, and the smallest one.
+pub fn of_cause(gathered: &Gathered) -> String {
+    let lines = [vec![gathered.cause.to_string()], cases(gathered), vec![difference(&gathered.found)]];
+    lines.concat().join("\n")
+}
+
+/// What became of the cases that were found before.
+fn old_cases(pairing: &Pairing) -> Vec<String> {
+    let said = |state| match state {
+        State::Equal => "equal now",
+        State::Differs => "differs still",
+        State::LeftOut => "left out as not for both",
+    };
+    pairing.old.iter().map(|old| format!("{}: {}", old.origin, said(old.state))).collect()
+}
+
+/// How many cases ran and what came of them, in a line.
+pub fn summary(pairing: &Pairing) -> String {
+    let left_out = match pairing.left_out {
+        0 => String::new(),
+        n => format!(", {} left out as not for both", grouped(n)),
+    };
+    let ran = format!("{}{left_out}", counted(pairing.ran, "case"));
+    let differing: u64 = pairing.causes.iter().map(Gathered::cases).sum();
+    match &pairing.causes[..] {
+        [] => format!("{ran}: no difference"),
+        [gathered, ..] if !pairing.keep_going => {
+            let last = if pairing.ran == 0 { "one found before" } else { "the last one" };
+            format!("{ran}: a difference in {last}, {}", gathered.found.origin)
+        }
+        causes => {
+            format!("{ran}: {} of difference in {}", counted(causes.len() as u64, "cause"), counted(differing, "case"))
+        }
+    }
+}
+
+/// `1 case`, `2,000 cases`
+pub fn counted(n: u64, what: &str) -> String {
+    format!("{} {what}{}", grouped(n), if n == 1 { "" } else { "s" })
+}
+
+/// How many cases show a cause, and as what.
+fn cases(gathered: &Gathered) -> Vec<String> {
+    let mut lines = vec![format!("{}, the first is {}", counted(gathered.cases(), "case"), gathered.found.origin)];
+    if gathered.seen.iter().any(|(cause, ..)| *cause != gathered.cause) {
+        let as_seen = |(cause, origin, n): &_| format!("    {} as {cause}; {origin}", counted(*n, "case"));
+        lines.extend(gathered.seen.iter().map(as_seen));
+    }
+    lines
+}
+
 fn difference(found: &Found) -> String {
     let shape = &found.smallest.shape;
-    let mut lines = vec![String::new()];
+    let mut lines = Vec::new();
     if found.needs_history {
         lines.push("Asked for by itself the case shows no difference: what was asked before it matters.".to_string());
     }
@@ -51,13 +117,23 @@ fn difference(found: &Found) -> String {
         0 => format!("{is} with {after} entries, as it was found:"),
         _ => format!("{is} with {after} entries, made smaller from {from}{before} in {tries} tries:"),
     });
-    lines.push(indented(shape.text().trim_end()));
-    for (letter, outcome) in ["A", "B"].iter().zip(&found.outcomes) {
+    lines.push(indented(&shape.readable()));
+    lines.extend(limits::reached(found).into_iter().map(|figure| format!("a largest figure: {figure}")));
+    for (letter, outcome) in LETTERS.iter().zip(&found.outcomes) {
         lines.push(format!("{letter}: {}", answered(outcome)));
     }
     lines.push(format!("the difference: {}", what_differs(found)));
     lines.extend(judged(&shape.case(), &found.outcomes));
+    for (letter, complaints) in LETTERS.iter().zip(&found.complaints) {
+        lines.extend(wrote(letter, complaints));
+    }
     lines.join("\n")
+}
+
+/// What a head wrote to standard error, if anything.
+fn wrote(letter: &str, complaints: &Complaints) -> Vec<String> {
+    let said = || format!("{letter} wrote to standard error:\n{}", indented(&complaints.text()));
+    if complaints.is_empty() { vec![] } else { vec![said()] }
 }
 
 fn indented(text: &str) -> String {
@@ -65,7 +141,7 @@ fn indented(text: &str) -> String {
 }
 
 /// What a head answered: the result as text, or the refusal.
-fn answered(outcome: &Outcome) -> String {
+pub fn answered(outcome: &Outcome) -> String {
     match outcome {
         Err(failure) => failure.to_string(),
         Ok(response) if response.number() == 0 => {
@@ -86,10 +162,10 @@ fn answered(outcome: &Outcome) -> String {
 }
 
 fn shown(response: &Response) -> String {
-    format!("\n{}", indented(&result_text(&response.result)))
+    format!("\n{}", indented(&shortened(&result_text(&response.result))))
 }
 
-fn what_differs(found: &Found) -> String {
+pub fn what_differs(found: &Found) -> String {
     let [Ok(a), Ok(b)] = &found.outcomes else { return "one of them does not answer".to_string() };
     let both = |name: &str, values: [String; 2]| format!("the {name}, {} in A and {} in B", values[0], values[1]);
     match found.difference {
@@ -126,6 +202,6 @@ fn judged(case: &Case, outcomes: &[Outcome; 2]) -> Vec<String> {
         format!("{who} of {letter}: {number}, {}", if number == 0 { "equal to ours" } else { numbers::meaning(number) })
     };
     let succeeded =
-        ["A", "B"].into_iter().zip(outcomes).filter_map(|(letter, outcome)| Some((letter, outcome.as_ref().ok()?)));
+        LETTERS.into_iter().zip(outcomes).filter_map(|(letter, outcome)| Some((letter, outcome.as_ref().ok()?)));
     succeeded.filter(|(_, r)| r.number() == 0).map(|(letter, response)| verdict(letter, response)).collect()
 }

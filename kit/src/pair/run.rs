@@ -1,17 +1,19 @@
-//! Runs two heads on the same cases until they differ.
+//! Runs two heads on the same cases until they differ, or gathers what they differ in.
 
-use super::cases::{Cases, Common, Origin};
-use super::difference::{Compared, Difference, difference};
-use super::process::{Failure, Outcome, Process};
+use super::blocks;
+use super::cases::{Cases, Origin};
+use super::cause::Cause;
+use super::complaints::Complaints;
+use super::difference::Difference;
+use super::found::Book;
+use super::heads::{Block, Heads, MOST_HANGS, NoHello, Seen};
+use super::process::Outcome;
 use super::progress::Progress;
 use super::shape::Shape;
 use super::shrink::{Effort, Shrunk, shrink};
-use crate::archive::Expander;
-use crate::reading;
 use crate::serve::Hello;
 use differential::case::Case;
-use differential::tape::{self, Sort};
-use std::collections::VecDeque;
+use std::collections::BTreeMap;
 use std::time::Duration;
 
 pub struct Plan {
@@ -26,194 +28,284 @@ pub struct Plan {
     pub only: Option<Vec<String>>,
     pub shrinks: bool,
     pub quiet: bool,
+    /// Behind a difference the next cases are run.
+    pub keep_going: bool,
+    /// So many cases are run at a time.
+    pub jobs: usize,
+    /// The file whose cases are run first, and to which those that are found are added.
+    pub found: Option<String>,
+}
+
+impl Plan {
+    /// So many cases of a seed, up to the first difference.
+    pub fn new(commands: [String; 2], seed: u64, cases: u64) -> Plan {
+        Plan {
+            commands,
+            corpora: vec![],
+            seed,
+            from: 0,
+            cases,
+            timeout: Duration::from_secs(10),
+            only: None,
+            shrinks: true,
+            quiet: false,
+            keep_going: false,
+            jobs: 1,
+            found: None,
+        }
+    }
 }
 
 /// How a pairing went.
 pub struct Pairing {
     pub hellos: [Hello; 2],
+    /// Whether behind a difference the next cases were run.
+    pub keep_going: bool,
+    /// The operations that were tried.
+    pub operations: Vec<&'static str>,
     pub ran: u64,
     /// Cases of operations that one of the heads has not, or without an older tape for one that needs it.
     pub left_out: u64,
     pub time: Duration,
-    pub found: Option<Found>,
+    /// The cases of the file of found ones.
+    pub old: Vec<Old>,
+    /// In the order of their first cases.
+    pub causes: Vec<Gathered>,
+    /// Why it ended before its cases did.
+    pub ended: Option<String>,
 }
 
-/// The first difference.
+impl Pairing {
+    /// How many cases were asked of both.
+    pub fn compared(&self) -> u64 {
+        self.ran + self.old.iter().filter(|old| old.state != State::LeftOut).count() as u64
+    }
+}
+
+/// What became of a case that was found before.
+pub struct Old {
+    pub origin: Origin,
+    pub state: State,
+}
+
+#[derive(Clone, Copy, Debug, PartialEq, Eq)]
+pub enum State {
+    Equal,
+    Differs,
+    /// Not for both heads.
+    LeftOut,
+}
+
+/// Differences of one cause.
+pub struct Gathered {
+    /// What the smallest case shows.
+    pub cause: Cause,
+    /// As what they were seen before they were made smaller: the first case of each, and how many there are.
+    pub seen: Vec<(Cause, Origin, u64)>,
+    pub found: Found,
+}
+
+impl Gathered {
+    pub fn cases(&self) -> u64 {
+        self.seen.iter().map(|(.., cases)| cases).sum()
+    }
+}
+
+/// The first difference of a cause.
 pub struct Found {
     pub origin: Origin,
     pub case: Case,
-    /// The case as small as it was made, and both outcomes.
+    pub cause: Cause,
+    /// The case as small as it was made, both outcomes, and what the heads wrote to standard error.
     pub smallest: Shrunk,
     pub outcomes: [Outcome; 2],
+    pub complaints: [Complaints; 2],
     pub difference: Difference,
     /// Asked for by itself the case shows no difference: what came before it matters.
     pub needs_history: bool,
 }
 
-/// So many requests are under way at a time.
-const WINDOW: usize = 64;
-
 /// How much is done to make a difference smaller; less where each try takes as long as a head may hang.
 const EFFORT: Effort = Effort { tries: 30_000, time: Duration::from_secs(120) };
 const EFFORT_IF_HUNG: Effort = Effort { tries: 2_000, time: Duration::from_secs(60) };
 
-struct Heads {
-    both: [Process; 2],
-    common: Common,
-    expander: Expander,
+/// The first cases of so many causes are made smaller. A head that differs in more is wrong nearly everywhere.
+pub const MOST_SHRUNK: usize = 40;
+
+/// How a pairing went, or which head does not even say hello.
+pub type Went = Result<Pairing, NoHello>;
+
+pub fn pair(plan: &Plan) -> Result<Went, String> {
+    let book = plan.found.as_deref().map(Book::open).transpose()?;
+    let (heads, hellos) = match Heads::start(&plan.commands, plan.timeout, plan.only.as_deref())? {
+        Ok(started) => started,
+        Err(no_hello) => return Ok(Err(no_hello)),
+    };
+    let common = heads.common.clone();
+    let cases = Cases::new(&plan.corpora, plan.seed, plan.from, plan.cases, &common)?;
+    let mut progress = Progress::new(cases.len(), plan.quiet);
+    let operations = common.operations.iter().map(|operation| operation.name()).collect();
+    let pairing = Pairing {
+        hellos,
+        keep_going: plan.keep_going,
+        operations,
+        ran: 0,
+        left_out: 0,
+        time: Duration::ZERO,
+        old: vec![],
+        causes: vec![],
+        ended: None,
+    };
+    let mut gatherer = Gatherer { plan, heads, book, pairing, by_cause: BTreeMap::new(), hung: 0 };
+    if gatherer.old_cases(&mut progress)? {
+        let take = &mut |block, progress: &mut Progress| gatherer.take(block, progress);
+        blocks::run(plan, &common, &cases, &mut progress, take)?;
+    }
+    Ok(Ok(Pairing { time: progress.end(), ..gatherer.pairing }))
 }
 
-/// A head that does not even say hello, and why.
-pub type NoHello = (usize, Failure);
-
-pub fn pair(plan: &Plan) -> Result<Result<Pairing, NoHello>, String> {
-    let start = |i: usize| Process::start(&plan.commands[i], plan.timeout);
-    let mut both = [start(0)?, start(1)?];
-    let mut hellos: [Hello; 2] = Default::default();
-    for i in 0..2 {
-        match both[i].hello() {
-            Ok(hello) => hellos[i] = hello,
-            Err(failure) => match failure.missing() {
-                Some(said) => return Err(format!("{} cannot be started: {said}", ["A", "B"][i])),
-                None => return Ok(Err((i, failure))),
-            },
-        }
-    }
-    let common = Common::of(&hellos, plan.only.as_deref());
-    if common.operations.is_empty() {
-        return Err("the two heads have no operation in common".to_string());
-    }
-    let mut heads = Heads { both, common, expander: Expander::default() };
-    let mut cases = Cases::new(&plan.corpora, plan.seed, plan.from, plan.cases, &heads.common)?;
-    let mut progress = Progress::new(cases.left(), plan.quiet);
-    let Watched { ran, left_out, under_way, seen } = heads.watch(&mut cases, &mut progress);
-    let time = progress.end();
-    let Some(seen) = seen else { return Ok(Ok(Pairing { hellos, ran, left_out, time, found: None })) };
-    let culprit = heads.culprit(&under_way)?;
-    let alone = culprit.map(|i| heads.examine(&under_way[i], plan.shrinks)).transpose()?.flatten();
-    let behind = culprit.filter(|_| alone.is_some()).unwrap_or(0);
-    let found = alone.unwrap_or_else(|| heads.as_found(&under_way[0], seen));
-    Ok(Ok(Pairing { hellos, ran: ran + behind as u64 + 1, left_out, time, found: Some(found) }))
+struct Gatherer<'a> {
+    plan: &'a Plan,
+    /// For one case at a time, while others run.
+    heads: Heads,
+    book: Option<Book>,
+    pairing: Pairing,
+    /// Where in the pairing's causes those are that were seen as this.
+    by_cause: BTreeMap<Cause, usize>,
+    hung: u64,
 }
 
-/// What came of running the cases.
-struct Watched {
-    ran: u64,
-    left_out: u64,
-    /// The case whose answers differ, those that were under way behind it, and the answers.
-    under_way: VecDeque<(Origin, Case)>,
-    seen: Option<[Outcome; 2]>,
-}
+impl Gatherer<'_> {
+    /// The cases of the file, each asked of heads that were just started. Says whether others are to be run.
+    fn old_cases(&mut self, progress: &mut Progress) -> Result<bool, String> {
+        let Some(book) = &self.book else { return Ok(true) };
+        let path = self.plan.found.clone().unwrap_or_default();
+        let mut goes_on = true;
+        for (i, old) in book.old.clone().into_iter().enumerate() {
+            let origin = Origin::Found(path.clone(), i + 1, old.from);
+            let fitted = self.heads.common.fitted(old.case);
+            let asked = fitted.map(|case| Ok::<_, String>((self.heads.ask_alone(&case)?, case))).transpose()?;
+            let Some((Some((outcomes, complaints)), case)) = asked else {
+                self.old(origin, State::LeftOut);
+                continue;
+            };
+            let Some((difference, cause)) = self.heads.differ(&case, &outcomes) else {
+                self.old(origin, State::Equal);
+                continue;
+            };
+            self.old(origin.clone(), State::Differs);
+            let mut block = Block::default();
+            block.add(Seen { origin, case, outcomes, cause, difference, complaints });
+            // What became of the others is said in any case.
+            goes_on = goes_on && self.take(block, progress)?;
+        }
+        Ok(goes_on)
+    }
 
-impl Heads {
-    /// Runs the cases, several under way at a time, up to the first difference.
-    fn watch(&mut self, cases: &mut Cases, progress: &mut Progress) -> Watched {
-        let mut under_way: VecDeque<(Origin, Case)> = VecDeque::new();
-        let mut watched = Watched { ran: 0, left_out: 0, under_way: VecDeque::new(), seen: None };
-        loop {
-            while under_way.len() < WINDOW
-                && let Some((origin, case)) = cases.next()
-            {
-                let fitted = case.and_then(|case| self.common.fitted(case));
-                let sent = fitted.and_then(|case| {
-                    let sent = self.common.for_both(&case, &mut self.expander)?;
-                    Some((case, sent))
-                });
-                match sent {
-                    Some((case, sent)) => {
-                        self.both.iter_mut().zip(&sent).for_each(|(head, case)| head.send(case));
-                        under_way.push_back((origin, case));
-                    }
-                    None => watched.left_out += 1,
-                }
+    fn old(&mut self, origin: Origin, state: State) {
+        self.pairing.old.push(Old { origin, state });
+    }
+
+    /// Takes the next block. Says whether others are to be run.
+    fn take(&mut self, mut block: Block, progress: &mut Progress) -> Result<bool, String> {
+        self.pairing.ran += block.ran;
+        self.pairing.left_out += block.left_out;
+        self.hung += block.hung;
+        for cause in std::mem::take(&mut block.order) {
+            let Some((seen, cases)) = block.seen.remove(&cause) else { continue };
+            self.gather(seen, cases, progress)?;
+        }
+        if self.plan.keep_going && self.hung >= MOST_HANGS {
+            let seconds = self.plan.timeout.as_secs_f32();
+            let why = format!(
+                "{} cases without an answer within {seconds} s, which are as many as are waited for",
+                self.hung
+            );
+            self.pairing.ended = Some(why);
+            return Ok(false);
+        }
+        Ok(self.plan.keep_going || self.pairing.causes.is_empty())
+    }
+
+    /// So many cases more of a cause, of which this is the first in this block.
+    fn gather(&mut self, seen: Seen, cases: u64, progress: &mut Progress) -> Result<(), String> {
+        let causes = &mut self.pairing.causes;
+        if let Some(i) = self.by_cause.get(&seen.cause) {
+            let known = causes[*i].seen.iter_mut().find(|(cause, ..)| *cause == seen.cause);
+            known.into_iter().for_each(|(.., count)| *count += cases);
+            return Ok(());
+        }
+        let (as_seen, origin) = (seen.cause, seen.origin.clone());
+        let found = self.examine(seen, progress)?;
+        let causes = &mut self.pairing.causes;
+        let is_same = |gathered: &Gathered| gathered.cause == found.cause && !found.needs_history;
+        let place = causes.iter().position(is_same).unwrap_or(causes.len());
+        if place == causes.len() {
+            if let Some(book) = self.book.as_mut().filter(|_| !found.needs_history) {
+                book.add(&found)?;
             }
-            if under_way.is_empty() {
-                return watched;
-            }
-            let outcomes = [0, 1].map(|i| self.both[i].receive());
-            if self.differ(&outcomes).is_some() {
-                return Watched { under_way, seen: Some(outcomes), ..watched };
-            }
-            under_way.pop_front();
-            watched.ran += 1;
-            progress.show(watched.ran + watched.left_out);
+            causes.push(Gathered { cause: found.cause, seen: vec![], found });
         }
+        causes[place].seen.push((as_seen, origin, cases));
+        self.by_cause.insert(as_seen, place);
+        Ok(())
     }
 
-    /// Whether the outcomes differ, as far as they are comparable.
-    fn differ(&self, outcomes: &[Outcome; 2]) -> Option<Difference> {
-        let compared = Compared { counts: self.common.counts };
-        if self.common.weeks == [true; 2] {
-            return difference(&outcomes[0], &outcomes[1], compared);
-        }
-        let [a, b] = outcomes.clone().map(|outcome| outcome.map(with_older_result));
-        difference(&a, &b, compared)
-    }
-
-    /// Both outcomes of one case by itself; nothing if it has no older tape for a head that needs one.
-    fn ask(&mut self, case: &Case) -> Result<Option<[Outcome; 2]>, String> {
-        let Some([first, second]) = self.common.for_both(case, &mut self.expander) else { return Ok(None) };
-        Ok(Some([self.both[0].ask(&first)?, self.both[1].ask(&second)?]))
-    }
-
-    /// A smaller case may be one of another operation: of those that both have.
-    fn differ_on(&mut self, case: &Case) -> Result<Option<Difference>, String> {
-        if !self.common.operations.contains(&case.operation) {
-            return Ok(None);
-        }
-        let difference = self.ask(case)?.and_then(|outcomes| self.differ(&outcomes));
-        if difference != Some(Difference::Failure) {
-            return Ok(difference);
-        }
-        // A head that failed was started again. If it fails for this case alone, it does so once more.
-        Ok(self.ask(case)?.and_then(|outcomes| self.differ(&outcomes)))
-    }
-
-    /// Which of the cases shows a difference by itself, asked of heads that were asked nothing before, if one does. A
-    /// head that dies or hangs may have kept back the answers to earlier ones.
-    fn culprit(&mut self, cases: &VecDeque<(Origin, Case)>) -> Result<Option<usize>, String> {
-        for (i, (_, case)) in cases.iter().enumerate() {
-            self.both.iter_mut().try_for_each(Process::restart)?;
-            if self.differ_on(case)?.is_some() {
-                return Ok(Some(i));
-            }
-        }
-        Ok(None)
-    }
-
-    /// The difference as small as it can be made, if it is to be; nothing if it does not show any more in the end.
-    fn examine(&mut self, (origin, case): &(Origin, Case), shrinks: bool) -> Result<Option<Found>, String> {
-        let hangs = |outcome: &Outcome| matches!(outcome, Err(Failure::Hangs(_)));
-        let mut effort = EFFORT;
-        if self.ask(case)?.is_some_and(|outcomes| outcomes.iter().any(hangs)) {
-            self.both.iter_mut().for_each(|head| head.timeout = head.timeout.min(Duration::from_millis(300)));
-            effort = EFFORT_IF_HUNG;
-        }
-        if !shrinks {
-            effort = Effort { tries: 0, time: Duration::ZERO };
-        }
-        let smallest = shrink(case, effort, &mut |case| Ok(self.differ_on(case)?.is_some()))?;
-        let Some(outcomes) = self.ask(&smallest.shape.case())? else { return Ok(None) };
-        let found = |difference| {
-            let (origin, case) = (origin.clone(), case.clone());
-            Found { origin, case, smallest, outcomes: outcomes.clone(), difference, needs_history: false }
+    /// The difference as small as it can be made, if it is to be; as it was seen, where it does not show by itself. Where
+    /// others are gathered too, a smaller case has to have the same cause.
+    fn examine(&mut self, seen: Seen, progress: &mut Progress) -> Result<Found, String> {
+        let (goes_on, wanted) = (self.plan.keep_going, seen.cause);
+        let will_do = |cause: Cause| !goes_on || cause.is_like(&wanted);
+        let Some(alone) = self.alone(&seen.case, will_do)? else { return Ok(as_seen(seen)) };
+        let is_old = matches!(seen.origin, Origin::Found(..));
+        let shrinks = self.plan.shrinks && !is_old && self.pairing.causes.len() < MOST_SHRUNK;
+        let found = |(outcomes, complaints, difference, cause), smallest: Shrunk| {
+            let (origin, case) = (seen.origin.clone(), seen.case.clone());
+            Found { origin, case, cause, smallest, outcomes, complaints, difference, needs_history: false }
         };
-        Ok(self.differ(&outcomes).map(found))
+        if shrinks {
+            let smallest = self.shrunk(&seen, will_do, progress)?;
+            if let Some(alone) = self.alone(&smallest.shape.case(), will_do)? {
+                return Ok(found(alone, smallest));
+            }
+        }
+        Ok(found(alone, Shrunk { shape: Shape::of(&seen.case), tries: 0 }))
     }
 
-    /// The difference as it was seen, where it does not show by itself.
-    fn as_found(&self, (origin, case): &(Origin, Case), seen: [Outcome; 2]) -> Found {
-        let smallest = Shrunk { shape: Shape::of(case), tries: 0 };
-        let difference = self.differ(&seen).unwrap_or(Difference::Failure);
-        Found { origin: origin.clone(), case: case.clone(), smallest, outcomes: seen, difference, needs_history: true }
+    /// What a case by itself shows, asked of heads that were just started, if it shows what is wanted.
+    fn alone(&mut self, case: &Case, will_do: impl Fn(Cause) -> bool) -> Result<Option<Alone>, String> {
+        let Some((outcomes, complaints)) = self.heads.ask_alone(case)? else { return Ok(None) };
+        let shown = self.heads.differ(case, &outcomes).filter(|(_, cause)| will_do(*cause));
+        Ok(shown.map(|(difference, cause)| (outcomes, complaints, difference, cause)))
+    }
+
+    fn shrunk(
+        &mut self,
+        seen: &Seen,
+        will_do: impl Fn(Cause) -> bool,
+        progress: &mut Progress,
+    ) -> Result<Shrunk, String> {
+        let effort = if seen.hangs() { EFFORT_IF_HUNG } else { EFFORT };
+        if seen.hangs() {
+            self.heads.hurry()?;
+        }
+        let mut tries = 0;
+        let smallest = shrink(&seen.case, effort, &mut |case| {
+            tries += 1;
+            progress.show_tries(&seen.origin, tries, effort);
+            Ok(self.heads.differ_on(case)?.is_some_and(&will_do))
+        });
+        self.heads.wait_for(self.plan.timeout);
+        smallest
     }
 }
 
-/// The answer with the older tape of its result, for a comparison with a head that knows no weeks.
-fn with_older_result(mut response: crate::response::Response) -> crate::response::Response {
-    let tree = reading::tree(&reading::with_zeros(&response.result), Sort::Any);
-    if let Some(older) = tree.ok().and_then(|tree| tape::older(&tape::withdrawn(&tree))) {
-        response.result = differential::vectors::without_zeros(&tape::encode(&older)).to_vec();
-    }
-    response
+/// What a case shows by itself.
+type Alone = ([Outcome; 2], [Complaints; 2], Difference, Cause);
+
+/// The difference as it was seen, where it does not show by itself.
+fn as_seen(seen: Seen) -> Found {
+    let Seen { origin, case, outcomes, cause, difference, complaints } = seen;
+    let smallest = Shrunk { shape: Shape::of(&case), tries: 0 };
+    Found { origin, case, cause, smallest, outcomes, complaints, difference, needs_history: true }
 }

@@ -1,7 +1,9 @@
 //! A case whose tapes are trees, so that parts can be taken away and the rest shown as text.
 
+use super::malformed;
+use super::progress::grouped;
 use crate::notation::{self, Rule, Spans};
-use crate::reading;
+use crate::reading::{self, Sections};
 use differential::case::{COUNTS, Case, Operation};
 use differential::tape::{self, Node, Sort};
 
@@ -22,11 +24,8 @@ pub struct Shape {
 impl Shape {
     pub fn of(case: &Case) -> Shape {
         let roots = case.operation.roots().iter().map(Some).chain(std::iter::repeat(None));
-        let part = |(bytes, root): (&Vec<u8>, Option<&Sort>)| {
-            let tree = root.and_then(|root| reading::tree(bytes, *root).ok());
-            tree.map_or_else(|| Part::Bytes(bytes.clone()), Part::Tree)
-        };
-        Shape { case: case.clone(), parts: case.tapes.iter().zip(roots).map(part).collect() }
+        let parts = case.tapes.iter().zip(roots).map(|(bytes, root)| Part::of(bytes.clone(), root));
+        Shape { case: case.clone(), parts: parts.collect() }
     }
 
     pub fn case(&self) -> Case {
@@ -85,8 +84,27 @@ impl Shape {
         Shape { case: Case::new(operation, limit, vec![]), parts: trees.into_iter().map(Part::Tree).collect() }
     }
 
+    /// The text, or of a long one both ends, and of many entries the first and the last ones.
+    pub fn readable(&self) -> String {
+        shortened(self.written(&few_entries).trim_end())
+    }
+
+    /// How much there is to read.
+    pub fn length(&self) -> usize {
+        let weight = |part: &Part| match part {
+            Part::Tree(_) => 0,
+            Part::Bytes(bytes) => malformed::weight(bytes),
+        };
+        self.written(&|_| String::new()).len() + self.parts.iter().map(weight).sum::<usize>()
+    }
+
     /// What is asked, as text: limit, file number, macros and condition, or whatever else the tapes hold.
     pub fn text(&self) -> String {
+        self.written(&|sections| crate::commands::entries(sections))
+    }
+
+    /// The text, where this is how the entries of what is no tree are shown.
+    fn written(&self, entries: &dyn Fn(Sections) -> String) -> String {
         let mut text = self.options();
         let spans = notation::spans_of(self.parts.iter().filter_map(Part::tree));
         if let [Part::Tree(registry), Part::Tree(condition)] = &self.parts[..]
@@ -102,7 +120,7 @@ impl Shape {
         for part in &self.parts {
             text.push_str(&match part {
                 Part::Tree(tree) => notation::print_root(tree, spans).trim_end().to_string(),
-                Part::Bytes(bytes) => shown_bytes(bytes),
+                Part::Bytes(bytes) => shown_bytes(bytes, entries),
             });
             text.push('\n');
         }
@@ -136,7 +154,7 @@ impl Shape {
             case
         };
         let limit = self.case.limit;
-        let all: Vec<Box<dyn Fn(&mut Case)>> = vec![
+        let all: [Change; 10] = [
             Box::new(|case| case.sizes = case.operation.buffers()),
             Box::new(|case| case.counts = [0; COUNTS]),
             Box::new(|case| case.file = 0),
@@ -153,6 +171,12 @@ impl Shape {
 }
 
 impl Part {
+    /// The tree of a tape with this root, or its bytes.
+    pub fn of(bytes: Vec<u8>, root: Option<&Sort>) -> Part {
+        let tree = root.and_then(|root| reading::tree(&bytes, *root).ok());
+        tree.map_or_else(|| Part::Bytes(bytes), Part::Tree)
+    }
+
     pub fn tree(&self) -> Option<&Node> {
         match self {
             Part::Tree(tree) => Some(tree),
@@ -161,10 +185,79 @@ impl Part {
     }
 }
 
+/// What makes a case more usual.
+type Change = Box<dyn Fn(&mut Case)>;
+
 /// Bytes that are no tree: their entries, or as they are.
-fn shown_bytes(bytes: &[u8]) -> String {
+fn shown_bytes(bytes: &[u8], entries: &dyn Fn(Sections) -> String) -> String {
     match reading::sections(bytes) {
-        Ok(sections) => format!("// no tree:\n{}", crate::commands::entries(sections).trim_end()),
-        Err(why) => format!("// no tape, {why}: {:02X?}", &bytes[..bytes.len().min(40)]),
+        Ok(sections) => format!("// no tree:\n{}", entries(sections).trim_end()),
+        Err(why) if bytes.len() <= MOST_BYTES => format!("// no tape, {why}: {bytes:02X?}"),
+        Err(why) => format!("// no tape, {why}: {:02X?} and so on", &bytes[..MOST_BYTES]),
+    }
+}
+
+/// So many bytes of what is no tape are shown.
+const MOST_BYTES: usize = 40;
+
+/// More entries than these are not shown one by one.
+const MOST_ENTRIES: usize = 20;
+const FIRST: usize = 8;
+const LAST: usize = 4;
+
+/// The entries of a tape, or the first and the last ones.
+fn few_entries(sections: Sections) -> String {
+    let all = crate::commands::entries(sections);
+    let lines: Vec<&str> = all.lines().collect();
+    if lines.len() <= MOST_ENTRIES {
+        return all;
+    }
+    let between = format!("       {} entries more", grouped((lines.len() - FIRST - LAST) as u64));
+    [&lines[..FIRST], &[&between], &lines[lines.len() - LAST..]].concat().join("\n")
+}
+
+/// So many bytes of a text are shown; of a longer one so many of its beginning and of its end.
+const LONGEST_TEXT: usize = 1_600;
+const BEGINNING: usize = 1_000;
+const END: usize = 400;
+
+/// A text, or of a long one both ends.
+pub fn shortened(text: &str) -> String {
+    if text.len() <= LONGEST_TEXT {
+        return text.to_string();
+    }
+    let (first, last) = (text.floor_char_boundary(BEGINNING), text.ceil_char_boundary(text.len() - END));
+    format!("{}\n// {} bytes of text left out\n{}", &text[..first], grouped((last - first) as u64), &text[last..])
+}
+
+#[cfg(test)]
+mod tests {
+    use super::*;
+
+    #[test]
+    fn of_what_is_long_both_ends_are_shown() {
+        let short = "x".repeat(LONGEST_TEXT);
+        assert_eq!(shortened(&short), short);
+        // The letter over whose bytes the beginning would end is left out whole.
+        let long = format!("{}é{}", "a".repeat(BEGINNING - 1), "b".repeat(LONGEST_TEXT));
+        let shown = shortened(&long);
+        assert!(shown.starts_with(&format!("{}\n// 1,202 bytes of text left out\nbb", "a".repeat(BEGINNING - 1))));
+        assert!(shown.ends_with(&format!("\n{}", "b".repeat(END))), "{shown}");
+    }
+
+    /// A condition's tape that begins with as many entries as no condition has.
+    fn malformed(entries: usize) -> Shape {
+        let sizes = [entries as u32, 0].map(u32::to_le_bytes).concat();
+        let tape = [sizes, vec![28; entries], vec![0; 8 * entries]].concat();
+        Shape::of(&Case::new(Operation::Profile, 0, vec![tape]))
+    }
+
+    #[test]
+    fn of_many_entries_the_first_and_the_last_ones() {
+        assert_eq!(malformed(20).readable().lines().count(), 21);
+        let lines: Vec<String> = malformed(1_025).readable().lines().map(str::to_string).collect();
+        assert_eq!(lines.len(), 1 + FIRST + 1 + LAST, "{lines:?}");
+        assert_eq!((lines[1].trim(), lines[9].trim()), ("1  28  0", "1,013 entries more"));
+        assert_eq!(lines.last().map(|line| line.trim()), Some("1025  28  0"));
     }
 }

@@ -1,13 +1,15 @@
 //! Makes a case smaller, as long as it stays what it was found for.
 
-use super::edits::{collect_texts, given, redirect, rename};
+use super::edits::{collect_texts, given, redirect, rename, unused};
 use super::edits::{with_body, without_comparison, without_parameter, without_spans};
+use super::malformed::{self, Flat};
 use super::shape::{Part, Shape};
 use super::{limits, operations, plain, simpler};
-use crate::{archive, reading};
+use crate::archive;
 use differential::case::Case;
-use differential::tape::{self, Node, Sort, Value};
+use differential::tape::{Node, Sort};
 use std::collections::BTreeSet;
+use std::ops::Range;
 use std::time::{Duration, Instant};
 
 /// Among so many macros calls are changed from one to another; of more most are not needed, and go first.
@@ -56,6 +58,9 @@ enum Goal {
 /// What makes one case smaller than another: the figures of the goal, and then the length of its text.
 type Cost = ([usize; 3], usize);
 
+/// Other bytes for some, of which a range is edited: of entries or of bytes.
+type Edit<'a> = dyn Fn(&[u8], Range<usize>) -> Vec<u8> + 'a;
+
 struct Shrinker<'a> {
     best: Shape,
     goal: Goal,
@@ -103,7 +108,7 @@ impl Shrinker<'_> {
     }
 
     fn best_cost(&mut self) -> Cost {
-        let cost = self.cost.unwrap_or_else(|| (self.figures(&self.best), self.best.text().len()));
+        let cost = self.cost.unwrap_or_else(|| (self.figures(&self.best), self.best.length()));
         self.cost = Some(cost);
         cost
     }
@@ -126,7 +131,7 @@ impl Shrinker<'_> {
     }
 
     fn take(&mut self, shape: &Shape, figures: [usize; 3]) -> Result<bool, String> {
-        let cost = (figures, shape.text().len());
+        let cost = (figures, shape.length());
         if cost >= self.best_cost() || self.is_spent() {
             return Ok(false);
         }
@@ -165,9 +170,9 @@ impl Shrinker<'_> {
     }
 
     fn part(&mut self, part: usize) -> Result<(), String> {
-        match self.best.parts[part].clone() {
+        match self.best.parts[part] {
             Part::Tree(_) => self.tree(part),
-            Part::Bytes(bytes) => self.bytes(part, &bytes),
+            Part::Bytes(_) => self.bytes(part),
         }
     }
 
@@ -203,6 +208,7 @@ impl Shrinker<'_> {
                     let inlined = inlined.as_ref();
                     self.consider(self.best.edited(|tree| without_parameter(tree, &names, place, inlined)))?;
                 }
+                self.consider(self.best.edited(|tree| unused(tree, &names, place)))?;
             }
         }
         Ok(())
@@ -316,21 +322,73 @@ impl Shrinker<'_> {
         Ok(())
     }
 
-    /// What is no tree loses entries, or bytes.
-    fn bytes(&mut self, part: usize, bytes: &[u8]) -> Result<(), String> {
-        let mut others = vec![vec![], vec![0; 8]];
-        if let Ok(sections) = reading::sections(bytes) {
-            others.extend((0..sections.codes.len()).rev().map(|entry| without_entry(sections, entry)));
+    /// What is no tree loses entries and bytes, many at once and then fewer, and what is left becomes plain.
+    fn bytes(&mut self, part: usize) -> Result<(), String> {
+        for other in malformed::plainest(self.bytes_of(part)) {
+            if self.put(part, other)? {
+                break;
+            }
         }
-        others.extend([bytes.len() / 2, bytes.len().saturating_sub(1)].map(|n| bytes[..n].to_vec()));
-        for other in others {
-            let mut shape = self.best.clone();
-            shape.parts[part] = Part::Bytes(other.clone());
-            if self.consider(shape)? {
-                return self.bytes(part, &other);
+        if Flat::of(self.bytes_of(part)).is_none() {
+            self.pieces(part, &|bytes| Some(bytes.len()), &malformed::without_bytes)?;
+            return self.pieces(part, &|bytes| Some(bytes.len()), &malformed::zeroed);
+        }
+        let entries = |bytes: &[u8]| Flat::of(bytes).map(|flat| flat.len());
+        let edits: [fn(&Flat, Range<usize>) -> Flat; 4] = [Flat::without, Flat::without_rest, Flat::plain, Flat::wild];
+        for edit in edits {
+            let edited = |bytes: &[u8], range| Flat::of(bytes).map_or(vec![], |flat| edit(&flat, range).encode());
+            self.pieces(part, &entries, &edited)?;
+        }
+        self.entries(part)
+    }
+
+    /// Edits pieces of what a part has so many of, large ones first, each size from the end on.
+    fn pieces(&mut self, part: usize, count: &dyn Fn(&[u8]) -> Option<usize>, edit: &Edit) -> Result<(), String> {
+        for chunk in malformed::pieces(count(self.bytes_of(part)).unwrap_or(0)) {
+            let mut end = count(self.bytes_of(part)).unwrap_or(0);
+            while end > 0 && !self.is_spent() {
+                let start = end.saturating_sub(chunk);
+                let edited = edit(self.bytes_of(part), start..end);
+                self.put(part, edited)?;
+                end = start.min(count(self.bytes_of(part)).unwrap_or(0));
             }
         }
         Ok(())
+    }
+
+    /// From the first entry on, every part of the tree that the entries are as far as they are one, by what could stand
+    /// there instead.
+    fn entries(&mut self, part: usize) -> Result<(), String> {
+        let root = self.best.case.operation.roots().get(part).copied().unwrap_or(Sort::Any);
+        let mut place = 0;
+        while let Some(flat) = Flat::of(self.bytes_of(part)).filter(|flat| place < flat.len()) {
+            let mut found = false;
+            for other in flat.instead(place, root) {
+                if self.put(part, other.encode())? {
+                    found = true;
+                    break;
+                }
+            }
+            place += usize::from(!found);
+            if self.is_spent() {
+                return Ok(());
+            }
+        }
+        Ok(())
+    }
+
+    /// The bytes of a part that is no tree; none of one that is.
+    fn bytes_of(&self, part: usize) -> &[u8] {
+        match &self.best.parts[part] {
+            Part::Bytes(bytes) => bytes,
+            Part::Tree(_) => &[],
+        }
+    }
+
+    fn put(&mut self, part: usize, bytes: Vec<u8>) -> Result<bool, String> {
+        let mut shape = self.best.clone();
+        shape.parts[part] = Part::of(bytes, self.best.case.operation.roots().get(part));
+        self.consider(shape)
     }
 }
 
@@ -345,29 +403,15 @@ fn budgets(shape: &Shape) -> Vec<u32> {
     [charged, charged.saturating_sub(1)].into_iter().filter(|exact| *exact != limit).collect()
 }
 
-/// A tape without one of its entries. Its text goes with it, as far as texts can be told apart.
-fn without_entry(sections: reading::Sections, entry: usize) -> Vec<u8> {
-    let length = |i: usize| match tape::value(sections.codes[i]) {
-        Value::TextLength => usize::try_from(sections.value(i)).unwrap_or(usize::MAX),
-        _ => 0,
-    };
-    let start = (0..entry).map(length).fold(0, usize::saturating_add).min(sections.text.len());
-    let end = start.saturating_add(length(entry)).min(sections.text.len());
-    let text = [&sections.text[..start], &sections.text[end..]].concat();
-    let codes = [&sections.codes[..entry], &sections.codes[entry + 1..]].concat();
-    let values = [&sections.values[..8 * entry], &sections.values[8 * entry + 8..]].concat();
-    let sizes = [codes.len(), text.len()].map(|n| (n as u32).to_le_bytes()).concat();
-    [sizes, codes, values, text].concat()
-}
-
 #[cfg(test)]
 mod tests {
     use super::*;
-    use crate::notation;
     use crate::second::{Fault, Second};
     use crate::serve::Head;
+    use crate::{notation, reading};
     use differential::case::Operation;
     use differential::generate;
+    use differential::tape::{self, Value};
 
     /// The first case of a seed of which something holds, made small.
     fn smallest(holds: impl Fn(&Case) -> bool) -> Shape {
@@ -484,5 +528,87 @@ mod tests {
             |case: &Case| answers(case, "check", 3) && reading::sizes(&case.tapes[0]).is_some_and(|s| s.0 == 1025);
         let shape = smallest(is_over);
         assert!(shape.entries() == 1025 && shape.text().len() < 80, "{}", shape.text());
+    }
+
+    /// The largest of the first cases that have a tape that is no tree and of which something holds, made small.
+    fn smallest_malformed(holds: impl Fn(&Case) -> bool) -> (Shape, Shape) {
+        let cases = (0..60_000).map(|i| generate::case(21, i)).filter(|case| holds(case)).map(|case| Shape::of(&case));
+        let large = cases.filter(|shape| shape.unreadable() > 0).take(8).max_by_key(Shape::entries).expect("some");
+        let small = shrunk(&large.case, holds);
+        (large, small)
+    }
+
+    /// Whether the model refuses a tape with 2, but not once it is edited.
+    fn is_refused_but_for(case: &Case, edit: impl Fn(&Flat) -> Flat) -> bool {
+        let edited = |tape: &Vec<u8>| Flat::of(tape).map_or(tape.clone(), |flat| edit(&flat).encode());
+        let other = Case { tapes: case.tapes.iter().map(edited).collect(), ..case.clone() };
+        let number = |case: &Case| archive::by_model(case).number();
+        case.operation != Operation::Sheet && number(case) == 2 && number(&other) != 2
+    }
+
+    /// Whether a case's first tape is no tree.
+    fn is_malformed(case: &Case) -> bool {
+        let root = case.operation.roots().first();
+        root.is_some_and(|root| reading::tree(&case.tapes[0], *root).is_err())
+    }
+
+    /// A head that first looks at the entries and then at how many there are says 2 where 3 comes first.
+    #[test]
+    fn a_malformed_tape_of_too_many_entries_becomes_the_least_of_these() {
+        let is_large = |tape: &Vec<u8>| Flat::of(tape).is_some_and(|flat| flat.len() > 1024);
+        let (large, small) = smallest_malformed(|case| is_large(&case.tapes[0]) && is_malformed(case));
+        assert!(large.each_entries()[0] > 1025 && small.each_entries()[0] == 1025, "{:?}", small.each_entries());
+        // The least condition has two entries.
+        assert!(small.each_entries()[1..].iter().sum::<usize>() <= 2, "{}", small.readable());
+        let lines: Vec<String> = small.readable().lines().map(str::to_string).collect();
+        assert!(lines.len() < 20 && lines.iter().any(|line| line.trim() == "1,013 entries more"), "{lines:?}");
+    }
+
+    /// Where the sizes alone show it, nothing else is left.
+    #[test]
+    fn sizes_that_are_over_need_no_entries() {
+        let is_over = |case: &Case| {
+            let sizes = reading::sizes(&case.tapes[0]).filter(|_| is_malformed(case));
+            sizes.is_some_and(|(entries, _)| entries > 1024) && archive::by_model(case).number() == 3
+        };
+        let (large, small) = smallest_malformed(is_over);
+        assert!(large.entries() > 1024 && small.entries() == 0, "{}", small.readable());
+        assert!(small.readable().contains("1025 entries and 0 bytes of text"), "{}", small.readable());
+    }
+
+    /// What is wrong stands in a tree that is otherwise one: a value that has to be 0.
+    #[test]
+    fn what_stands_around_a_wrong_value_goes() {
+        let zero =
+            |flat: &Flat| flat.with_values(|code, value| if tape::value(code) == Value::Zero { 0 } else { value });
+        let (large, small) = smallest_malformed(|case| is_refused_but_for(case, zero));
+        assert!(large.entries() > 40 && small.entries() <= 8, "{}: {}", large.entries(), small.readable());
+    }
+
+    /// And one that has to be below a few.
+    #[test]
+    fn what_stands_around_an_operator_goes() {
+        let below = |flat: &Flat| flat.with_values(|code, value| if code == 53 { value % 6 } else { value });
+        let (large, small) = smallest_malformed(|case| is_refused_but_for(case, below));
+        assert!(large.entries() > 40 && small.entries() <= 8, "{}: {}", large.entries(), small.readable());
+    }
+
+    #[test]
+    fn what_is_left_over_stays_alone() {
+        let (large, small) = smallest_malformed(|case| {
+            let without_last = |flat: &Flat| flat.without(flat.len().saturating_sub(1)..flat.len());
+            is_refused_but_for(case, without_last)
+        });
+        assert!(large.entries() > 8 && small.entries() <= 8, "{}: {}", large.entries(), small.readable());
+        let (large, small) = smallest_malformed(|case| is_refused_but_for(case, |flat| flat.without_rest(0..0)));
+        assert!(large.entries() > 8 && small.entries() <= 8, "{}: {}", large.entries(), small.readable());
+    }
+
+    /// A tape of a provider has no text in the notation, and becomes small all the same.
+    #[test]
+    fn a_provider_tape_becomes_small() {
+        let is_refused = |case: &Case| answers(case, "argument_to_term", 56);
+        let (large, small) = smallest_malformed(is_refused);
+        assert!(large.entries() > 10 && small.entries() <= 5, "{}: {}", large.entries(), small.readable());
     }
 }

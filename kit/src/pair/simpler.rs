@@ -56,7 +56,8 @@ pub fn instead(node: &Node, sort: Sort) -> Vec<Node> {
     found
 }
 
-fn smallest(node: &Node, sort: Sort) -> Vec<Node> {
+/// The smallest trees of a sort.
+pub fn smallest(node: &Node, sort: Sort) -> Vec<Node> {
     let (wildcard, sigil) = (wildcard(), Node::with_text(32, b"y"));
     match sort {
         Sort::Condition => vec![tp(), plain::predicate()],
