@@ -20,7 +20,7 @@ use crate::output;
 use crate::response::Response;
 use crate::source::Source;
 use differential::case::{Case, Operation};
-use std::io::{IsTerminal, Write};
+use std::io::IsTerminal;
 
 /// How a command ended: its exit status.
 #[derive(Clone, Copy, Debug, PartialEq, Eq)]
