@@ -13,7 +13,7 @@ sheet_numbers = 1 ∷ 2 ∷ 3 ∷ 10 ∷ 11 ∷ 57 ∷ []
 abbrev pub SheetOpenEnds : Type 0
 SheetOpenEnds = (m : ℕ) (registry sheet : List ℕ) → Ends sheet_numbers Nothing (message_alone m) (sheet_open_answer m registry sheet)
 
--- a tape, or nothing where no condition is left
+-- a tape, or nothing (where no condition is left: `Steps` of Opens.antt)
 abbrev pub NextTape : List ℕ → Type 0
 NextTape bytes = TreeTape bytes ⊎ Nothing bytes
 

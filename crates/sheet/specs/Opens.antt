@@ -1,6 +1,7 @@
 -- Document 02, point 13, as promises over any functions: one that meets `Opens` opens a sheet as ours does, and one that meets `Steps`
--- answers each step and goes on as ours does, on every input and all buffers. They are said by the answers of registry and expansion,
--- by the bytes of a sheet as the paper spells it, and by nothing of the sheet's own definition but the five numbers of its state.
+-- answers each step and goes on as ours does, on every input and all buffers. They are said by the answers of registry and expansion
+-- and the counts that expansion hands back (`expand_counts`, which `CountsUsed` of definition determines), by the bytes of a sheet as the
+-- paper spells it, and by nothing of the sheet's own definition but the five numbers of its state.
 -- The theorems are in proofs/Opens.antt.
 -- Assumes nothing.
 use Rattle.std.specs.Prelude.{ℕ, ◌+◌, ◌-◌, ◌≤◌, ◌<◌, min, ◌≡◌, ◌≢◌, ◌⊎◌, List, [], ◌∷◌, ◌++◌, length, drop}
@@ -94,7 +95,8 @@ abbrev pub file_number : Progress → ℕ
 file_number p = min p.file 65535
 
 -- The expansion of a condition "with what is left of the budget as its limit": its answer; the state, so many bytes further on, with
--- one condition less and its charge, "refused or not"; and the registry state that it hands back.
+-- one condition less and its charge ("A refused condition doesn't stop the others, and its charges stay"); and the registry state that
+-- it hands back.
 abbrev pub expanded : Buffers → (registry : List ℕ) → Progress → (counts condition : List ℕ) → (width : ℕ) → Answer × (Progress × List ℕ)
 expanded b registry p counts c width =
     let a = expand_answer b (left_of_budget p) (file_number p) registry c in (
