@@ -8,27 +8,15 @@ use std::{env, fs};
 
 const KIT: &str = env!("CARGO_MANIFEST_DIR");
 
-/// What heads/model.rs, a head of an earlier version, leaves out, and in what it is made wrong; each as it stands there.
-const EDITS: [(&str, &str); 5] = [
-    ("use differential::case::{Case, OPERATIONS};", "use differential::case::{Case, OPERATIONS, Operation};"),
-    ("features sizes\\n", "features files sizes utf8 weeks\\n"),
-    (
-        "    frame.take(2 + 4);\n",
-        "    let file = u16::from_le_bytes(frame.take(2).try_into().expect(\"2 bytes\"));\n    let index = frame.u32();\n",
-    ),
-    (
-        "    case.sizes = sizes;\n",
-        "    (case.sizes, case.file, case.index) = (sizes, file, index);\n    fail(&case);\n",
-    ),
-    (
-        "    let words = [a.number, a.start, a.end, a.message.len() as u64, a.charged, 0, 0];\n",
-        "    let (words, a) = wrong(&case, a);\n",
-    ),
-];
+/// What `kit/heads/model.rs` is made of another program by: it fails, or answers something else, where it has answered.
+const EDITS: [(&str, &str); 1] = [(
+    "    let (a, _) = model::answer(&case);\n",
+    "    fail(&case);\n    let (a, _) = model::answer(&case);\n    let a = wrong(&case, a);\n",
+)];
 
 /// Three ways to be wrong, and two to end, of which the first word of the command line chooses.
 const WRONG: &str = r#"
-fn wrong(case: &Case, mut a: differential::case::Answer) -> ([u64; 7], differential::case::Answer) {
+fn wrong(case: &Case, mut a: differential::case::Answer) -> differential::case::Answer {
     if std::env::args().nth(1).as_deref() == Some("three-ways") {
         match case.operation {
             Operation::Check if a.number == 21 => a.number = 22,
@@ -40,7 +28,7 @@ fn wrong(case: &Case, mut a: differential::case::Answer) -> ([u64; 7], different
             _ => {}
         }
     }
-    (a.words(), a)
+    a
 }
 
 fn fail(case: &Case) {
@@ -73,12 +61,14 @@ fn build() -> PathBuf {
         source = source.replace(from, to);
     }
     let package = "[workspace]\n[package]\nname = \"three-ways\"\nversion = \"0.1.0\"\nedition = \"2024\"\n";
+    let has = ["counts", "files", "index", "preview", "utf8", "weeks"];
+    let features = has.map(|feature| format!("{feature} = []\n")).concat();
     let depends = format!("[dependencies]\ndifferential = {{ path = \"{KIT}/../differential\" }}\n");
     fs::create_dir_all(folder.join("src")).expect("a folder");
     fs::write(folder.join("src/main.rs"), source + WRONG).expect("a file");
-    fs::write(folder.join("Cargo.toml"), format!("{package}{depends}")).expect("a file");
+    fs::write(folder.join("Cargo.toml"), format!("{package}[features]\n{features}{depends}")).expect("a file");
     // In the kit's own folder, where `differential` is built already.
-    let words = ["build", "--offline", "--release", "--quiet", "--jobs", "2"];
+    let words = ["build", "--offline", "--release", "--quiet", "--jobs", "2", "--all-features"];
     let mut cargo = Command::new(env!("CARGO"));
     let built = cargo.current_dir(&folder).args(words).arg("--target-dir").arg(target).status();
     assert!(built.expect("cargo runs").success());
