@@ -397,7 +397,7 @@ module _ (g h : Stepping) (p : Steps g) (q : Steps h) (b : Buffers) (registry sh
       p.nowhere b registry sheet at counts some (λ c rest x. from_true (sym e ∙ one_begins (drop at.at sheet) c rest x))
       ∙ sym (q.nowhere b registry sheet at counts some (λ c rest x. from_true (sym e ∙ one_begins (drop at.at sheet) c rest x)))
 
-  alike_done : at.left ≡ 0 → Short b ⊎ LongBuffers b → one_step.0 ≡ other_step.0
+  alike_done : at.left ≡ 0 → ShortBuffers b ⊎ LongBuffers b → one_step.0 ≡ other_step.0
   alike_done none (inl s) = refuses_one (p.done_short b registry sheet at counts none s) (q.done_short b registry sheet at counts none s)
   alike_done none (inr l) = gives_one (p.done b registry sheet at counts none l) (q.done b registry sheet at counts none l)
 
