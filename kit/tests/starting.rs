@@ -193,7 +193,7 @@ fn what_one_command_prints_another_reads() {
         assert!(status.success(), "{merged}");
         [stdout, stderr].map(|bytes| String::from_utf8(bytes).expect("UTF-8"))
     };
-    let note = "(check_library: no archive is linked; answered by the model in differential/)\n";
+    let note = "(check: no archive is linked; answered by the model in differential/)\n";
     let note = if kit::archive::LINKED.is_some() { "" } else { note };
     assert_eq!(check(false), ["5 macros, 0 rules, 0 mistakes\n", note]);
     assert_eq!(check(true), ["5 macros, 0 rules, 0 mistakes\n", ""]);
