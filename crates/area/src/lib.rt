@@ -16,6 +16,9 @@ ghost use Rattle.area.specs.Area.{area_in, empty_at, overflow_of, grown, headed,
 
 use buffer::message::Message;
 
+// How long an area is.
+pub const AREA_SIZE: usize = 12288;
+
 // A writer's state: its area's base, how many entries and text bytes stand there, and whether they were too many. It stands beside its
 // slice, as `s, out`, and does not hold it: a walk's cursor holds both, and a struct with a `&mut` in a struct with one would not tell
 // whoever lent the slice what it holds in the end.
@@ -53,7 +56,7 @@ fn overflow(out: Writer) -> Writer
 fn has_area(size: usize, base: usize) -> bool
     ensures { Decides (base + 12288 ≤ size) result }
 {
-    12288 <= size && base <= size - 12288
+    AREA_SIZE <= size && base <= size - AREA_SIZE
 }
 
 // Whether the area stands within `size` bytes, and has room for `entries` more entries with `bytes` bytes of text.

@@ -1,9 +1,10 @@
 -- "It always ends": every public operation, on every input, ends in a result or in a refusal of document 01: number, span, message.
 -- After a refusal result and work are zero throughout and the message buffer holds the message, then zeros. Each answer is a total
 -- function of the tapes, the limit, the file number and the buffers' lengths; of each this says which numbers come, and what is
--- returned and written with them. That each buffer is as long as it was lent, so that no message is cut, is `Bounded` of Kept.antt; which
--- span and which charge come with a number is what the operation's own promises determine. The theorems are in proofs/Ends.antt; those of
--- the house sheet in its crate, and of what C is answered in neukolja/specs/Ends.antt.
+-- returned and written with them. That each buffer is as long as it was lent, and that no message is cut, is `Bounded` of Kept.antt, of an
+-- older tape `OlderBounded` of Older.antt, and of the house sheet `OpenBounded` in its crate. Which span, which message and which charge
+-- come with a number is what the operation's own promises determine. The theorems are in proofs/Ends.antt; those of the house sheet in its
+-- crate, and of what C is answered in neukolja/specs/Ends.antt.
 -- Assumes nothing.
 use Rattle.std.specs.Prelude.{ℕ, ◌*◌, ◌≤◌, ◌≡◌, ◌≢◌, ◌⊎◌, List, [], ◌∷◌, T, length}
 use Rattle.format.specs.Entry.{Text, Entry, encode}
@@ -38,7 +39,7 @@ RegistryTape bytes = (defs : List MacroDef) × (bytes ≡ encode (flat_registry 
 abbrev pub Rows : List ℕ → Type 0
 Rows bytes = (k : ℕ) × (length bytes ≡ 16 * k)
 
--- a tape of any root
+-- the bytes of some entries; of an older tape `OlderResult` of Older.antt says which
 abbrev pub EntriesTape : List ℕ → Type 0
 EntriesTape bytes = (es : List Entry) × (bytes ≡ encode es)
 

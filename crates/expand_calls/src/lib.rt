@@ -8,7 +8,7 @@ ghost use Rattle.expand_calls.specs.Calls.{resolve_in, condition_macro_in, value
 
 use crate::output::Expansion;
 use answer::WORK_SIZE;
-use area::{Writer, empty};
+use area::{AREA_SIZE, Writer, empty};
 use grammar::code;
 use grammar::codes::CALL;
 use messages::{Reason, Refused, refuse};
@@ -86,7 +86,7 @@ pub fn level_above(out: Writer) -> Writer
     ensures { result ≡ above out }
 {
     if out.base <= WORK_SIZE {
-        return empty(out.base + 12288);
+        return empty(out.base + AREA_SIZE);
     }
     empty(out.base)
 }

@@ -11,7 +11,7 @@ ghost use Rattle.merge.specs.Ends.{AnswersMerging, EndsMerge};
 use crate::join::{Refusing, merge_named};
 use answer::tapes::accept_two;
 use answer::{Answer, RESULT_SIZE, long_without_work, number_alone, refuse, refuse_without_work};
-use area::{Writer, finish};
+use area::{AREA_SIZE, Writer, finish};
 use de_morgan::{rewritten_in, without_or};
 use grammar::codes::DEFINITIONS;
 use tape::layout::Tape;
@@ -45,7 +45,7 @@ fn answer_merging(
 fn merge_in(first: &Tape, second: &Tape, res: &mut [u8], message: &mut [u8]) -> Answer
     ensures { EndsMerge first.now.bytes.now first.now.layout second.now.bytes.now second.now.layout (length res.old) (length message.old) (answer_with result res.new [] message.new) }
 {
-    let mut area = [0u8; 12288];
+    let mut area = [0u8; AREA_SIZE];
     let m = merge_named(first, second, &mut area);
     answer_merging(first, second, m, &area, res, message)
 }

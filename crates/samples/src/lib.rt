@@ -1,7 +1,7 @@
 // The tapes of document 01's bench cases and of its further examples, written entry by entry from the definitions in its text.
 #![tactic(auto)]
 
-use area::{Writer, empty, finish, put, put_text};
+use area::{AREA_SIZE, Writer, empty, finish, put, put_text};
 use grammar::code;
 
 // The tape of the six definitions, and its length.
@@ -22,14 +22,14 @@ pub fn condition(case: u32, tape: &mut [u8]) -> usize {
 // An area that entries are written to. It derives neither Debug nor equality, since what it holds is a buffer.
 #[derive(Drop)]
 struct Sheet {
-    area: [u8; 12288],
+    area: [u8; AREA_SIZE],
     out: Writer,
 }
 
 impl Sheet {
     fn blank() -> Sheet {
         Sheet {
-            area: [0; 12288],
+            area: [0; AREA_SIZE],
             out: empty(0),
         }
     }
