@@ -13,6 +13,10 @@ use crate::tape::{
     self, LARGEST, LARGEST_CALLS, LARGEST_LITERAL, LARGEST_PARAMETERS, LARGEST_TEXT, Measure, Node, Sort, Unread,
 };
 use std::collections::{BTreeMap, BTreeSet};
+use std::num::NonZero;
+use std::sync::atomic::{AtomicU64, Ordering};
+use std::thread;
+use std::time::Duration;
 
 /// Something that a case shows. `shown` has the words.
 #[derive(Clone, Debug, PartialEq, Eq, PartialOrd, Ord)]
@@ -200,25 +204,61 @@ pub fn record(seed: u64, cases: u64, only: &[Operation], watch: &mut dyn FnMut(u
     Ok(list)
 }
 
-/// For each thing that can be shown the smallest cases that show it.
-fn smallest(seed: u64, cases: u64, only: &[Operation], watch: &mut dyn FnMut(u64)) -> Result<Vec<Candidate>, String> {
-    let mut least: BTreeMap<(u8, Shows), Vec<(usize, u64)>> = BTreeMap::new();
-    // The program that replays the list cannot run another.
-    let only: Vec<_> = only.iter().copied().filter(|operation| *operation != Operation::Sheet).collect();
-    for index in 0..cases {
-        watch(index);
-        if !only.contains(&generate::operation(seed, index)) {
-            continue;
-        }
-        let candidate = Candidate::new(generate::case(seed, index))?;
-        for shows in &candidate.shows {
-            let of = least.entry(shows.clone()).or_default();
-            of.push((candidate.cost(), index));
-            of.sort_unstable();
-            of.truncate(KEPT);
-        }
+/// For each thing that can be shown the cost and the index of the smallest cases that show it.
+#[derive(Default)]
+struct Least(BTreeMap<(u8, Shows), Vec<(usize, u64)>>);
+
+impl Least {
+    fn add(&mut self, shows: (u8, Shows), cases: &[(usize, u64)]) {
+        let of = self.0.entry(shows).or_default();
+        of.extend(cases);
+        of.sort_unstable();
+        of.truncate(KEPT);
     }
-    let kept: BTreeSet<u64> = least.values().flatten().map(|(_, index)| *index).collect();
+
+    fn of(seed: u64, indices: impl Iterator<Item = u64>) -> Result<Least, String> {
+        let mut least = Least::default();
+        for index in indices {
+            let candidate = Candidate::new(generate::case(seed, index))?;
+            let cost = candidate.cost();
+            candidate.shows.into_iter().for_each(|shows| least.add(shows, &[(cost, index)]));
+        }
+        Ok(least)
+    }
+}
+
+/// The model's walks recurse as deep as tapes nest.
+const STACK: usize = 64 << 20;
+
+/// For each thing that can be shown the smallest cases that show it. The cases are looked through on as many threads as there are
+/// processors; which are kept does not depend on how many.
+fn smallest(seed: u64, cases: u64, only: &[Operation], watch: &mut dyn FnMut(u64)) -> Result<Vec<Candidate>, String> {
+    // The program that replays the list cannot run another.
+    let is_asked = |operation: Operation| operation != Operation::Sheet && only.contains(&operation);
+    let jobs = thread::available_parallelism().map_or(1, NonZero::get);
+    let done = AtomicU64::new(0);
+    let least = thread::scope(|scope| {
+        let job = |first: usize| {
+            let look = |index: &u64| {
+                done.fetch_add(1, Ordering::Relaxed);
+                is_asked(generate::operation(seed, *index))
+            };
+            Least::of(seed, (first as u64..cases).step_by(jobs).filter(look))
+        };
+        let start = |first: usize| thread::Builder::new().stack_size(STACK).spawn_scoped(scope, move || job(first));
+        let started = (0..jobs).map(start).collect::<Result<Vec<_>, _>>().map_err(|e| format!("a thread: {e}"))?;
+        while !started.iter().all(|job| job.is_finished()) {
+            watch(done.load(Ordering::Relaxed));
+            thread::sleep(Duration::from_millis(50));
+        }
+        let mut least = Least::default();
+        for job in started {
+            let part = job.join().unwrap_or_else(|panic| std::panic::resume_unwind(panic))?;
+            part.0.into_iter().for_each(|(shows, cases)| least.add(shows, &cases));
+        }
+        Ok::<_, String>(least)
+    })?;
+    let kept: BTreeSet<u64> = least.0.values().flatten().map(|(_, index)| *index).collect();
     kept.into_iter().map(|index| Candidate::new(generate::case(seed, index))).collect()
 }
 

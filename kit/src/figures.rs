@@ -1,4 +1,4 @@
-//! The largest figures: which of them a tape passes, how large it is, and with which entry.
+//! The largest figures: what a tape comes to in each, which of them it passes, and with which entry.
 
 use crate::pair::grouped;
 use crate::reading;
@@ -7,8 +7,9 @@ use differential::model::{self, TooLarge};
 use differential::tape::{
     LARGEST, LARGEST_CALLS, LARGEST_LITERAL, LARGEST_PARAMETERS, LARGEST_TEXT, Node, Sort, is_node,
 };
+use std::collections::BTreeMap;
 
-#[derive(Clone, Copy, Debug, PartialEq, Eq)]
+#[derive(Clone, Copy, Debug, PartialEq, Eq, PartialOrd, Ord)]
 pub enum Figure {
     Entries,
     /// Bytes of text.
@@ -22,6 +23,14 @@ pub enum Figure {
     Literal,
     /// Bytes of any other text: a name, a path's part, an id.
     Name,
+}
+
+/// What something comes to in a figure, and the most that it may come to.
+#[derive(Clone, Copy, Debug, PartialEq, Eq, PartialOrd, Ord)]
+pub struct Measured {
+    pub figure: Figure,
+    pub largest: usize,
+    pub is: usize,
 }
 
 /// A figure that is passed.
@@ -48,6 +57,26 @@ impl Figure {
             Figure::Name => "name",
         }
     }
+
+    /// What there are so many of.
+    pub fn noun(self) -> &'static str {
+        match self {
+            Figure::Entries => "entries",
+            Figure::Text => "bytes of text",
+            Figure::Nesting => "levels",
+            Figure::Calls => "calls inside one another",
+            Figure::Parameters => "parameters",
+            Figure::Literal => "bytes of a literal",
+            Figure::Name => "bytes of a name",
+        }
+    }
+}
+
+impl Measured {
+    /// By how much it is passed, 0 if it is reached exactly.
+    pub fn over(self) -> Option<usize> {
+        self.is.checked_sub(self.largest)
+    }
 }
 
 impl Passed {
@@ -71,6 +100,32 @@ impl Passed {
     }
 }
 
+/// Entries, text, nesting and calls of a whole tree, as it is or with each Or rewritten. Of all figures these hold for what is
+/// made as well as for what is given.
+pub fn of_whole(tree: &Node, rewritten: bool) -> [Measured; 4] {
+    Count::of(tree, rewritten).measured()
+}
+
+/// The longest list of parameters and the longest texts, for each figure. `longest_name` is for variables (27 and 43).
+pub fn of_parts(tree: &Node, longest_name: usize) -> Vec<Measured> {
+    let mut longest = BTreeMap::new();
+    tree.visit(&mut |node| {
+        let Measured { figure, largest, is } = of_entry(node, longest_name);
+        let most = longest.entry((figure, largest)).or_insert(is);
+        *most = is.max(*most);
+    });
+    longest.into_iter().map(|((figure, largest), is)| Measured { figure, largest, is }).collect()
+}
+
+/// Entries and bytes of text as the front of a tape has them, which need be no tree.
+pub fn of_sizes(bytes: &[u8]) -> [Measured; 2] {
+    let (entries, text) = reading::sizes(bytes).unwrap_or_default();
+    [
+        Measured { figure: Figure::Entries, largest: LARGEST.entries, is: entries },
+        Measured { figure: Figure::Text, largest: LARGEST.text, is: text },
+    ]
+}
+
 /// Every figure that a tree passes, in the order in which the scope paper looks at them: the whole, its entries, and the
 /// whole again with each Or rewritten. `longest_name` is for variables (27 and 43).
 pub fn passed(tree: &Node, longest_name: usize) -> Vec<Passed> {
@@ -82,18 +137,11 @@ pub fn passed(tree: &Node, longest_name: usize) -> Vec<Passed> {
 
 /// Entries, text, nesting and calls of the whole.
 fn of_all(tree: &Node, rewritten: bool) -> Vec<Passed> {
-    let mut count = Count { rewritten, ..Count::default() };
-    count.below(tree, 0, 0);
-    let figures = [
-        (Figure::Entries, count.entries, LARGEST.entries),
-        (Figure::Text, count.text, LARGEST.text),
-        (Figure::Nesting, count.nesting, LARGEST.nesting),
-        (Figure::Calls, count.calls, LARGEST_CALLS),
-    ];
-    let passed = |((figure, is, largest), entry): (_, Option<usize>)| {
+    let count = Count::of(tree, rewritten);
+    let passed = |(Measured { figure, largest, is }, entry): (_, Option<usize>)| {
         entry.map(|entry| Passed { figure, is, largest, rewritten, entry })
     };
-    figures.into_iter().zip(count.over).filter_map(passed).collect()
+    count.measured().into_iter().zip(count.over).filter_map(passed).collect()
 }
 
 /// What is counted on the way through a tree, and for each figure the first entry with which it is passed.
@@ -109,6 +157,21 @@ struct Count {
 }
 
 impl Count {
+    fn of(tree: &Node, rewritten: bool) -> Count {
+        let mut count = Count { rewritten, ..Count::default() };
+        count.below(tree, 0, 0);
+        count
+    }
+
+    fn measured(&self) -> [Measured; 4] {
+        [
+            Measured { figure: Figure::Entries, largest: LARGEST.entries, is: self.entries },
+            Measured { figure: Figure::Text, largest: LARGEST.text, is: self.text },
+            Measured { figure: Figure::Nesting, largest: LARGEST.nesting, is: self.nesting },
+            Measured { figure: Figure::Calls, largest: LARGEST_CALLS, is: self.calls },
+        ]
+    }
+
     fn below(&mut self, node: &Node, nesting: usize, calls: usize) {
         let is_or = self.rewritten && node.code == 2;
         let nesting = nesting + if is_or { 3 } else { usize::from(is_node(node.code)) };
@@ -135,12 +198,7 @@ impl Count {
 fn of_entries(tree: &Node, longest_name: usize) -> Vec<Passed> {
     let (mut found, mut at) = (Vec::new(), 0);
     tree.visit(&mut |node| {
-        let (figure, is, largest) = match node.code {
-            22 | 23 | 72 | 74 => (Figure::Literal, node.text.len(), LARGEST_LITERAL),
-            60 => (Figure::Parameters, node.children[1].value as usize, LARGEST_PARAMETERS),
-            27 | 43 => (Figure::Name, node.text.len(), longest_name),
-            _ => (Figure::Name, node.text.len(), LARGEST_TEXT),
-        };
+        let Measured { figure, largest, is } = of_entry(node, longest_name);
         // Behind a definition stand its name and the list, then a span and a name for each parameter.
         let entry = if figure == Figure::Parameters { at + 3 + 2 * largest } else { at };
         found.extend((is > largest).then_some(Passed { figure, is, largest, rewritten: false, entry }));
@@ -149,20 +207,25 @@ fn of_entries(tree: &Node, longest_name: usize) -> Vec<Passed> {
     found
 }
 
+/// The length of a definition's list of parameters, or of an entry's text.
+fn of_entry(node: &Node, longest_name: usize) -> Measured {
+    let (figure, largest, is) = match node.code {
+        60 => (Figure::Parameters, LARGEST_PARAMETERS, node.children[1].value as usize),
+        22 | 23 | 72 | 74 => (Figure::Literal, LARGEST_LITERAL, node.text.len()),
+        27 | 43 => (Figure::Name, longest_name, node.text.len()),
+        _ => (Figure::Name, LARGEST_TEXT, node.text.len()),
+    };
+    Measured { figure, largest, is }
+}
+
 /// Every figure that a tape passes. Of one that is too large and no tree the sizes at its front are known.
 pub fn of_tape(bytes: &[u8], root: Sort, longest_name: usize) -> Vec<Passed> {
-    let (entries, text) = reading::sizes(bytes).unwrap_or_default();
-    let fits = entries <= LARGEST.entries && text <= LARGEST.text;
-    match reading::tree(bytes, root) {
-        Ok(tree) => passed(&tree, longest_name),
-        Err(_) if fits => vec![],
-        Err(_) => {
-            let entries = (entries > LARGEST.entries).then_some((Figure::Entries, entries, LARGEST.entries));
-            let figures = entries.or(Some((Figure::Text, text, LARGEST.text)));
-            let whole = |(figure, is, largest)| Passed { figure, is, largest, rewritten: false, entry: 0 };
-            figures.map(whole).into_iter().collect()
-        }
-    }
+    let Ok(tree) = reading::tree(bytes, root) else {
+        let over = of_sizes(bytes).into_iter().find(|size| size.is > size.largest);
+        let whole = |Measured { figure, largest, is }| Passed { figure, is, largest, rewritten: false, entry: 0 };
+        return over.map(whole).into_iter().collect();
+    };
+    passed(&tree, longest_name)
 }
 
 /// What passes a figure.

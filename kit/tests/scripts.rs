@@ -9,10 +9,14 @@ use std::{env, fs};
 
 const KIT: &str = env!("CARGO_MANIFEST_DIR");
 
-/// A folder of this name with nothing in it, among those that cargo has for tests.
+/// Where the folders of this run are: outside of this checkout, in which rt would take their crates for its own.
+fn scratch() -> PathBuf {
+    env::temp_dir().join(format!("neukolja-scripts-{}", std::process::id()))
+}
+
+/// A folder of this name with nothing in it.
 fn folder(name: &str) -> PathBuf {
-    let path = Path::new(env!("CARGO_TARGET_TMPDIR")).join(name);
-    let _ = fs::remove_dir_all(&path);
+    let path = scratch().join(name);
     fs::create_dir_all(&path).expect("a folder");
     path
 }
@@ -50,6 +54,7 @@ fn the_archive_is_found_and_built() {
     nobody_else_reads_what_is_for_the_kit();
     cargo_takes_no_archive_too();
     a_head_takes_the_archive_of_its_checkout();
+    fs::remove_dir_all(scratch()).expect("a folder");
 }
 
 /// What `../neukolja` itself runs. Neither rt nor cargo is among them, nor git.

@@ -1,11 +1,10 @@
 //! What can be chosen by: marks of a case, each with one exact meaning. docs/SUPPLIER.md has the same table.
 
+use crate::figures::{self, Measured};
 use crate::reading;
 use differential::case::{Answer, COUNTS, Case};
 use differential::model;
-use differential::tape::{
-    self, LARGEST, LARGEST_CALLS, LARGEST_LITERAL, LARGEST_PARAMETERS, LARGEST_TEXT, Node, Sort, Unread,
-};
+use differential::tape::{self, Node, Sort, Unread};
 
 #[derive(Clone, Copy, Debug, PartialEq, Eq, PartialOrd, Ord)]
 pub enum Flag {
@@ -117,42 +116,25 @@ pub fn refused_tape(case: &Case) -> Option<(usize, Unread)> {
     (0..).zip(read(case)).find_map(|(i, read)| Some((i, read.err()?)))
 }
 
-/// Each tape as it is given and rewritten without Or.
-fn read(case: &Case) -> impl Iterator<Item = Result<(Node, Node), Unread>> {
+/// Each tape as it is given.
+fn read(case: &Case) -> impl Iterator<Item = Result<Node, Unread>> {
     let tapes = case.tapes.iter().zip(case.operation.roots()).enumerate();
-    tapes.map(|(i, (bytes, root))| model::read(bytes, *root, case.operation.longest_name(i, case.file)))
+    tapes.map(|(i, (bytes, root))| {
+        model::read(bytes, *root, case.operation.longest_name(i, case.file)).map(|(given, _)| given)
+    })
 }
 
 /// Whether an accepted tape, as it is given or rewritten, or the result stands exactly at a largest figure.
 fn at_a_figure(case: &Case, answer: &Answer) -> bool {
-    let tapes = read(case).enumerate().filter_map(|(i, read)| Some((i, read.ok()?)));
-    let mut given = tapes.map(|(i, (given, rewritten))| {
-        let longest_name = case.operation.longest_name(i, case.file);
-        is_at_figure(&given) || is_at_figure(&rewritten) || has_part_at_figure(&given, longest_name)
-    });
-    let result = tape::accept(&answer.result, result_root(case), usize::MAX).ok();
-    given.any(|at| at) || result.is_some_and(|result| is_at_figure(&result))
-}
-
-/// Entries, text and nesting, which hold for what is made too, and calls, of which nothing that is made has more.
-fn is_at_figure(tree: &Node) -> bool {
-    let m = tape::measure(tree);
-    m.entries == LARGEST.entries || m.text == LARGEST.text || m.nesting == LARGEST.nesting || m.calls == LARGEST_CALLS
-}
-
-/// The figures of single entries, which hold for tapes that are given.
-fn has_part_at_figure(tree: &Node, longest_name: usize) -> bool {
-    let mut found = false;
-    tree.visit(&mut |node| {
-        let length = node.text.len();
-        found |= match node.code {
-            60 => node.children[1].value == LARGEST_PARAMETERS as u64,
-            22 | 23 | 72 | 74 => length == LARGEST_LITERAL,
-            27 | 43 => length == longest_name,
-            _ => length == LARGEST_TEXT,
-        };
-    });
-    found
+    let at = |figures: &[Measured]| figures.iter().any(|measured| measured.over() == Some(0));
+    let of_tape = |(i, read): (usize, Result<Node, Unread>)| {
+        read.is_ok_and(|tree| {
+            let parts = figures::of_parts(&tree, case.operation.longest_name(i, case.file));
+            [false, true].into_iter().any(|rewritten| at(&figures::of_whole(&tree, rewritten))) || at(&parts)
+        })
+    };
+    let result = tape::accept(&answer.result, result_root(case), usize::MAX);
+    read(case).enumerate().any(of_tape) || result.is_ok_and(|result| at(&figures::of_whole(&result, false)))
 }
 
 /// The root that a result may have.

@@ -8,9 +8,9 @@ use super::progress::grouped;
 use super::run::Found;
 use super::shape::{Part, Shape};
 use crate::commands::result_tree;
-use crate::reading;
+use crate::figures::{self, Measured};
 use differential::case::Operation;
-use differential::tape::{self, LARGEST, LARGEST_CALLS, LARGEST_LITERAL, LARGEST_PARAMETERS, Node};
+use differential::tape::{LARGEST, LARGEST_CALLS, LARGEST_LITERAL, Node};
 
 /// Which of the largest figures the smallest case reaches, or is one beyond: in its tapes, and in what was answered.
 pub fn reached(found: &Found) -> Vec<String> {
@@ -18,8 +18,7 @@ pub fn reached(found: &Found) -> Vec<String> {
     for (letter, outcome) in ["A", "B"].iter().zip(&found.outcomes) {
         let tree = outcome.as_ref().ok().filter(|response| response.number() == 0);
         if let Some(tree) = tree.and_then(|response| result_tree(&response.result)) {
-            // A generated name may be longer than one that is given.
-            lines.extend(said(&format!("{letter}'s result"), of_tree(&tree, usize::MAX - 1)));
+            lines.extend(said(&format!("{letter}'s result"), &figures::of_whole(&tree, false)));
         }
     }
     lines
@@ -30,55 +29,29 @@ pub fn of_shape(shape: &Shape) -> Vec<String> {
     let of_part = |(i, part): (usize, &Part)| {
         let (tape, longest) = (format!("tape {}", i + 1), shape.case.operation.longest_name(i, shape.case.file));
         match part {
-            Part::Bytes(bytes) => said(&tape, of_sizes(bytes)),
+            Part::Bytes(bytes) => said(&tape, &figures::of_sizes(bytes)),
             Part::Tree(tree) => {
-                let (as_given, without) = (of_tree(tree, longest), of_tree(&tape::withdrawn(tree), longest));
-                let other = without.into_iter().filter(|figure| !as_given.contains(figure)).collect();
-                [said(&tape, as_given.clone()), said(&format!("{tape} without Or"), other)].concat()
+                let [given, without] = [false, true].map(|rewritten| figures::of_whole(tree, rewritten));
+                let other: Vec<_> = without.into_iter().filter(|measured| !given.contains(measured)).collect();
+                let of_tree = [&given[..], &figures::of_parts(tree, longest)].concat();
+                [said(&tape, &of_tree), said(&format!("{tape} without Or"), &other)].concat()
             }
         }
     };
     shape.parts.iter().enumerate().flat_map(of_part).collect()
 }
 
-/// What it is, how many of that there are, and how many there may be.
-type Figure = (&'static str, usize, usize);
-
-fn of_sizes(bytes: &[u8]) -> Vec<Figure> {
-    let (entries, text) = reading::sizes(bytes).unwrap_or_default();
-    vec![("entries", entries, LARGEST.entries), ("bytes of text", text, LARGEST.text)]
-}
-
-fn of_tree(tree: &Node, longest_name: usize) -> Vec<Figure> {
-    let measure = tape::measure(tree);
-    let [mut name, mut literal, mut parameters] = [0; 3];
-    tree.visit(&mut |node| match node.code {
-        22 | 23 => literal = literal.max(node.text.len()),
-        60 => parameters = parameters.max(node.children[1].value as usize),
-        _ => name = name.max(node.text.len()),
-    });
-    vec![
-        ("entries", measure.entries, LARGEST.entries),
-        ("bytes of text", measure.text, LARGEST.text),
-        ("levels", measure.nesting, LARGEST.nesting),
-        ("calls inside one another", measure.calls, LARGEST_CALLS),
-        ("parameters", parameters, LARGEST_PARAMETERS),
-        ("bytes of a name", name, longest_name),
-        ("bytes of a literal", literal, LARGEST_LITERAL),
-    ]
-}
-
 /// Those that are reached exactly, and those that are exceeded by one.
-fn said(of: &str, figures: Vec<Figure>) -> Vec<String> {
-    let line = |(what, is, largest): Figure| {
-        let how = match is.checked_sub(largest)? {
+fn said(of: &str, figures: &[Measured]) -> Vec<String> {
+    let line = |measured: &Measured| {
+        let how = match measured.over()? {
             0 => "as many as there may be",
             1 => "one more than there may be",
             _ => return None,
         };
-        Some(format!("{} {what} in {of}, {how}", grouped(is as u64)))
+        Some(format!("{} {} in {of}, {how}", grouped(measured.is as u64), measured.figure.noun()))
     };
-    figures.into_iter().filter_map(line).collect()
+    figures.iter().filter_map(line).collect()
 }
 
 pub fn cases() -> Vec<Shape> {

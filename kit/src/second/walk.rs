@@ -191,7 +191,7 @@ impl<'a> Walk<'a> {
     fn argument<'n>(&self, sigil: &Node, span: u64, definition: &Node, call: &'n Node) -> Walked<&'n Node> {
         let names = parameters(definition);
         let mut places = names.iter().zip(arguments(call)).filter(|(parameter, _)| **parameter == sigil.text);
-        let found = if self.has(Fault::FirstParameter) { places.next() } else { places.last() };
+        let found = if self.has(Fault::FirstParameter) { places.next() } else { places.next_back() };
         match found {
             Some((_, argument)) => Ok(argument),
             None => refuse(41, span, message::unbound(name(definition), &sigil.text)),
