@@ -265,36 +265,41 @@ fn smallest(seed: u64, cases: u64, only: &[Operation], watch: &mut dyn FnMut(u64
 // ------------------------------------------------------------------ what a case shows
 
 fn shows(case: &Case, answer: &Answer, notes: &Notes) -> Vec<Shows> {
-    let success = answer.number == 0;
-    // Of two definitions that differ: what the first one has there, and whether the other has that code too.
-    let apart = answer.number == 51 && notes.cause.0 != notes.cause.1;
-    let found = if apart { 0 } else { notes.cause.1 };
-    let mut all = vec![Shows::Number(answer.number, notes.cause.0, found)];
-    all.extend(notes.events.iter().map(|e| Shows::Event(e)));
+    let mut all = vec![number(answer, notes)];
+    all.extend(notes.events.iter().map(|event| Shows::Event(event)));
     all.extend(of_refusals(case, answer, notes));
-    if !notes.given.is_empty() {
-        let places = places::seen(&notes.given);
-        all.extend(places.iter().map(|(.., code)| Shows::Code { success, code: *code }));
-        if success {
-            if case.operation.charges() || case.operation == Operation::Provider {
-                all.extend(places.into_iter().map(Shows::Place));
-            }
-            all.extend(notes.trees.iter().skip(1).map(|tree| Shows::Calls(tape::measure(tree).calls)));
-            all.push(Shows::Charges(notes.charges.min(12)));
+    all.extend(of_tapes(case, answer, notes));
+    all.extend(notes.result.iter().flat_map(|result| of_result(case, answer, result)));
+    all.extend(of_operation(case, answer, notes));
+    if case.operation.has_counts() {
+        all.extend(of_counts(case, answer, notes).into_iter().map(Shows::Counts));
+    }
+    all.extend(of_message(case, answer, notes));
+    all
+}
+
+/// The number, with the code that was refused and the code that was found there.
+fn number(answer: &Answer, notes: &Notes) -> Shows {
+    let (refused, found) = notes.cause;
+    // Of two definitions that differ: what the first one has there, and whether the other has that code too.
+    let apart = answer.number == 51 && refused != found;
+    Shows::Number(answer.number, refused, if apart { 0 } else { found })
+}
+
+/// What the accepted tapes hold, and what is made of them.
+fn of_tapes(case: &Case, answer: &Answer, notes: &Notes) -> Vec<Shows> {
+    let success = answer.number == 0;
+    let places = places::seen(&notes.given);
+    let mut all: Vec<Shows> = places.iter().map(|(.., code)| Shows::Code { success, code: *code }).collect();
+    for (given, tree) in notes.given.iter().zip(&notes.trees) {
+        all.extend(of_tape(given, tree, success));
+    }
+    if success && !notes.given.is_empty() {
+        if case.operation.charges() || case.operation == Operation::Provider {
+            all.extend(places.into_iter().map(Shows::Place));
         }
-        for (given, tree) in notes.given.iter().zip(&notes.trees) {
-            let what = if given == tree { "tape" } else { "rewritten tape" };
-            all.extend(at_limits(tree).into_iter().map(|figure| Shows::AtALimit(what, figure)));
-            all.extend(characters_of(tree).into_iter().map(|n| Shows::Character("tape", n)));
-            tree.visit(&mut |node| {
-                if node.code == 60 && tape::measure(node).nesting == LARGEST.nesting {
-                    all.push(Shows::DeepBody(node.children[2].code, success));
-                }
-                if node.code == 54 && node.children[1].value > LARGEST_PARAMETERS as u64 {
-                    all.push(Shows::ManyArguments);
-                }
-            });
-        }
+        all.extend(notes.trees.iter().skip(1).map(|tree| Shows::Calls(tape::measure(tree).calls)));
+        all.push(Shows::Charges(notes.charges.min(12)));
     }
     if success {
         all.extend(notes.measured.iter().flat_map(|(what, m)| {
@@ -302,72 +307,108 @@ fn shows(case: &Case, answer: &Answer, notes: &Notes) -> Vec<Shows> {
             at_figures(m).map(move |figure| Shows::AtALimit(what, figure))
         }));
     }
-    if let Some(result) = &notes.result {
-        result.visit(&mut |node| all.push(Shows::ResultCode(node.code)));
-        all.extend(generated(result, case.file));
-        all.extend(characters_of(result).into_iter().map(|n| Shows::Character("result", n)));
-        if answer.charged > 0 && answer.charged == u64::from(case.limit) {
-            all.push(Shows::WholeBudget);
+    all
+}
+
+/// The same of one of them, as it is given and as it is rewritten.
+fn of_tape(given: &Node, tree: &Node, success: bool) -> Vec<Shows> {
+    let what = if given == tree { "tape" } else { "rewritten tape" };
+    let at = at_limits(tree).into_iter().map(|figure| Shows::AtALimit(what, figure));
+    let mut all: Vec<Shows> = at.chain(characters_of(tree).into_iter().map(|n| Shows::Character("tape", n))).collect();
+    tree.visit(&mut |node| match node.code {
+        60 if tape::measure(node).nesting == LARGEST.nesting => {
+            all.push(Shows::DeepBody(node.children[2].code, success));
         }
+        54 if node.children[1].value > LARGEST_PARAMETERS as u64 => all.push(Shows::ManyArguments),
+        _ => {}
+    });
+    all
+}
+
+fn of_result(case: &Case, answer: &Answer, result: &Node) -> Vec<Shows> {
+    let mut all: Vec<Shows> = generated(result, case.file).into_iter().collect();
+    result.visit(&mut |node| all.push(Shows::ResultCode(node.code)));
+    all.extend(characters_of(result).into_iter().map(|n| Shows::Character("result", n)));
+    if answer.charged > 0 && answer.charged == u64::from(case.limit) {
+        all.push(Shows::WholeBudget);
     }
-    if let Operation::Older | Operation::Provider | Operation::ArgumentToTerm | Operation::TermToArgument =
-        case.operation
-        && let [tree] = &notes.given[..]
-    {
-        if success {
-            all.push(Shows::Root(tree.code));
+    all
+}
+
+/// What only some operations can show.
+fn of_operation(case: &Case, answer: &Answer, notes: &Notes) -> Vec<Shows> {
+    let success = answer.number == 0;
+    match (case.operation, &notes.given[..], &notes.trees[..]) {
+        (Operation::Older | Operation::Provider | Operation::ArgumentToTerm | Operation::TermToArgument, [tree], _) => {
+            of_root(tree, success)
         }
-        tree.visit(&mut |node| all.extend(weeks_below(node)));
+        (Operation::CheckLibrary, ..) if success => vec![listed(answer)],
+        (Operation::CheckAt, [definitions], _) => vec![asked(case.index as usize, definitions, answer)],
+        (Operation::Merge, ..) => of_merge(notes),
+        (Operation::Profile, _, [condition]) => of_profile(condition, answer.number),
+        (Operation::Judge, ..) => of_judge(case, notes),
+        _ => vec![],
     }
-    if case.operation == Operation::CheckLibrary && success {
-        let (entries, _) = answer.result.as_chunks::<16>();
-        let numbers: BTreeSet<u8> = entries.iter().map(|entry| entry[4]).collect();
-        let class = [0, 1, 2, 3, 203, 204].into_iter().rfind(|n| *n <= entries.len()).expect("0 is");
-        all.push(Shows::Listed(class, numbers.len()));
-    }
-    if let (Operation::Merge, [first, second]) = (case.operation, &notes.trees[..]) {
+}
+
+fn of_root(tree: &Node, success: bool) -> Vec<Shows> {
+    let mut all: Vec<Shows> = success.then_some(Shows::Root(tree.code)).into_iter().collect();
+    tree.visit(&mut |node| all.extend(weeks_below(node)));
+    all
+}
+
+/// So many refused definitions, each with its number in four bytes behind its index.
+fn listed(answer: &Answer) -> Shows {
+    let (entries, _) = answer.result.as_chunks::<16>();
+    let numbers: BTreeSet<u8> = entries.iter().map(|entry| entry[4]).collect();
+    let class = [0, 1, 2, 3, 203, 204].into_iter().rfind(|n| *n <= entries.len()).expect("0 is");
+    Shows::Listed(class, numbers.len())
+}
+
+fn asked(index: usize, definitions: &Node, answer: &Answer) -> Shows {
+    let count = definitions.children.len();
+    let place = match index {
+        _ if index >= count => "behind the last",
+        0 => "first",
+        _ if index + 1 == count => "last",
+        _ => "between",
+    };
+    Shows::Asked(place, answer.number)
+}
+
+fn of_merge(notes: &Notes) -> Vec<Shows> {
+    let mut all = Vec::new();
+    if let [first, second] = &notes.trees[..] {
         let names = |registry| model::registry(registry).map_or_else(|refusal| refusal.number, |()| 0);
         all.push(Shows::NamesOfBoth(names(first), names(second)));
     }
-    if let (Operation::Merge, [first, second], Some(merged)) = (case.operation, &notes.given[..], &notes.result) {
+    if let ([first, second], Some(merged)) = (&notes.given[..], &notes.result) {
         all.push(Shows::Merged(kept_once(first, second), merged.children.len() > first.children.len()));
     }
-    if notes.ours.is_some() {
-        all.extend(notes.judged.map(|why| Shows::Judged(why, case.file > 0)));
-        let long = judge::names(&notes.given[2..]).into_iter().map(|name| name.len()).filter(|n| *n > LARGEST_TEXT);
-        all.extend(long.map(Shows::Name));
+    all
+}
+
+fn of_judge(case: &Case, notes: &Notes) -> Vec<Shows> {
+    if notes.ours.is_none() {
+        return vec![];
     }
-    if case.operation == Operation::CheckAt
-        && let [definitions] = &notes.given[..]
-    {
-        let (asked, count) = (case.index as usize, definitions.children.len());
-        let place = match asked {
-            _ if asked >= count => "behind the last",
-            0 => "first",
-            _ if asked + 1 == count => "last",
-            _ => "between",
-        };
-        all.push(Shows::Asked(place, answer.number));
+    let judged = notes.judged.map(|why| Shows::Judged(why, case.file > 0));
+    let long = judge::names(&notes.given[2..]).into_iter().map(|name| name.len()).filter(|n| *n > LARGEST_TEXT);
+    judged.into_iter().chain(long.map(Shows::Name)).collect()
+}
+
+fn of_message(case: &Case, answer: &Answer, notes: &Notes) -> Vec<Shows> {
+    let mut all: Vec<Shows> = characters(&answer.message).map(|n| Shows::Character("message", n)).collect();
+    match answer.number {
+        10 => all.push(Shows::Reserved(answer.message.clone())),
+        20 => {
+            let tree = &notes.trees[0];
+            let names = declared(if tree.code == 60 { tree } else { &tree.children[case.index as usize] });
+            let wide = names.iter().filter(|name| !name.is_ascii()).count();
+            all.push(Shows::Declared(names.len().min(4), wide.min(4)));
+        }
+        _ => {}
     }
-    if case.operation == Operation::Profile
-        && let [condition] = &notes.trees[..]
-    {
-        all.extend(of_profile(condition, answer.number));
-    }
-    if case.operation.has_counts() {
-        all.extend(of_counts(case, answer, notes).into_iter().map(Shows::Counts));
-    }
-    if answer.number == 10 {
-        all.push(Shows::Reserved(answer.message.clone()));
-    }
-    if answer.number == 20 {
-        let asked =
-            if notes.trees[0].code == 60 { &notes.trees[0] } else { &notes.trees[0].children[case.index as usize] };
-        let declared = declared(asked);
-        let wide = declared.iter().filter(|name| !name.is_ascii()).count();
-        all.push(Shows::Declared(declared.len().min(4), wide.min(4)));
-    }
-    all.extend(characters(&answer.message).map(|n| Shows::Character("message", n)));
     if case.sizes[2] > case.operation.buffers()[2] && answer.number != 1 {
         all.push(Shows::LongBuffers(answer.message.is_empty()));
     }
