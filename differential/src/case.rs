@@ -41,6 +41,11 @@ pub const OPERATIONS: [Operation; 15] = [
 ];
 
 impl Operation {
+    /// The operation of this name.
+    pub fn named(name: &str) -> Option<Operation> {
+        OPERATIONS.into_iter().find(|operation| operation.name() == name)
+    }
+
     pub fn name(self) -> &'static str {
         match self {
             Operation::Check => "check",
@@ -137,6 +142,17 @@ impl Operation {
 pub const COUNTS: usize = 255;
 pub type Counts = [u32; COUNTS];
 
+/// The counts up to the last that is not 0. No more of them is ever written.
+pub fn used(counts: &Counts) -> &[u32] {
+    let used = counts.iter().rposition(|count| *count != 0).map_or(0, |last| last + 1);
+    &counts[..used]
+}
+
+/// The same as they are sent: four bytes for each.
+pub fn used_bytes(counts: &Counts) -> Vec<u8> {
+    used(counts).iter().flat_map(|count| count.to_le_bytes()).collect()
+}
+
 /// Room for what the program prints: 32 lines of five numbers.
 const LINES: usize = 4_096;
 
@@ -205,5 +221,21 @@ impl Answer {
     pub fn words(&self) -> Words {
         let [number, start, end, length, charged] = self.numbers();
         [number, start, end, length, charged, self.size[0], self.size[1]]
+    }
+}
+
+#[cfg(test)]
+mod tests {
+    use super::*;
+
+    #[test]
+    fn counts_are_written_up_to_the_last_that_is_not_0() {
+        let mut counts = [0; COUNTS];
+        assert_eq!(used(&counts), [0; 0]);
+        (counts[0], counts[2]) = (7, 256);
+        assert_eq!(used(&counts), [7, 0, 256]);
+        assert_eq!(used_bytes(&counts), [7, 0, 0, 0, 0, 0, 0, 0, 0, 1, 0, 0]);
+        counts[COUNTS - 1] = 1;
+        assert_eq!(used(&counts).len(), COUNTS);
     }
 }

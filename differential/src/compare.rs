@@ -363,7 +363,9 @@ pub fn judge_steps(machine: &mut dyn Machine, input: &[u8], budget: u32, file: u
     let none = Answer::success([0; COUNTS]);
     let mut state = [u64::MAX; 5];
     let open = Case { sizes: [0, 0, case.sizes[2]], ..case.clone() };
-    judge_with(&open, opened.as_ref().err().unwrap_or(&none), |lent| machine.open_sheet(&case, lent, &mut state))?;
+    judge_with(&open, opened.as_ref().err().map_or(&none, Box::as_ref), |lent| {
+        machine.open_sheet(&case, lent, &mut state)
+    })?;
     let Ok(conditions) = opened else { return Ok(()) };
     let mut expected = [conditions.len() as u64, 0, u64::from(budget), u64::from(file)];
     let counts = std::array::from_fn(|i| if i % 2 == 0 { 0 } else { u32::MAX - 1 });

@@ -5,7 +5,7 @@ use crate::random::Random;
 use crate::tape::{self, Node};
 use crate::trees::{Ground, Trees};
 
-const MOST_NODES: usize = 16;
+pub const MOST_NODES: usize = 16;
 const ONE_DAY: i128 = 24 * 60 * 60;
 
 /// The first broken rule in entry order; for one entry the lowest number.

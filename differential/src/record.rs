@@ -1,7 +1,7 @@
 //! The fixed list: cases that together show everything worth showing, as few bytes as may be.
 
 use crate::bench_cases;
-use crate::case::{Answer, COUNTS, Case, Counts, Operation};
+use crate::case::{self, Answer, COUNTS, Case, Operation};
 use crate::compare;
 use crate::generate;
 use crate::judge;
@@ -162,8 +162,7 @@ impl Candidate {
     fn cost(&self) -> usize {
         // what a vector has beside its tapes and buffers
         const FRAME: usize = 100;
-        let counts = |counts: &Counts| 4 * counts.iter().rposition(|c| *c != 0).map_or(0, |i| i + 1);
-        let counts = counts(&self.case.counts) + counts(&self.answer.counts);
+        let counts = 4 * (case::used(&self.case.counts).len() + case::used(&self.answer.counts).len());
         FRAME + self.case.bytes() + self.answer.result.len() + self.answer.message.len() + counts
     }
 

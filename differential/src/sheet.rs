@@ -23,12 +23,12 @@ pub fn split(input: &[u8]) -> Option<(&[u8], &[u8])> {
 }
 
 /// The conditions of a sheet, or the refusal with which it is opened.
-pub fn open<'a>(registry: &[u8], sheet: &'a [u8]) -> Result<Vec<&'a [u8]>, Answer> {
+pub fn open<'a>(registry: &[u8], sheet: &'a [u8]) -> Result<Vec<&'a [u8]>, Box<Answer>> {
     let names = model::answer(&Case::new(Operation::Registry, 0, vec![registry.to_vec()])).0;
     if names.number != 0 {
-        return Err(names);
+        return Err(Box::new(names));
     }
-    let refused = |number: u64| Err(Answer { number, ..names.clone() });
+    let refused = |number: u64| Err(Box::new(Answer { number, ..names.clone() }));
     let count = sheet.first_chunk::<4>().map(|n| u32::from_le_bytes(*n));
     if sheet.len() > LONGEST_SHEET || count.is_some_and(|n| n > MOST_CONDITIONS) {
         return refused(57);

@@ -1,6 +1,6 @@
 //! Lists of cases with their answers, in the format that README.md gives.
 
-use crate::case::{Answer, COUNTS, Case, Counts, OPERATIONS, Operation, Words};
+use crate::case::{self, Answer, COUNTS, Case, Counts, OPERATIONS, Operation, Words};
 
 const MARK: &[u8; 8] = b"ORACLEV3";
 /// Lists from elsewhere, with another spelling of the counts; read and not written.
@@ -35,9 +35,7 @@ fn put_bytes(out: &mut Vec<u8>, bytes: &[u8]) {
 }
 
 fn put_counts(out: &mut Vec<u8>, counts: &Counts) {
-    let last = counts.iter().rposition(|c| *c != 0).map_or(0, |i| i + 1);
-    let bytes: Vec<u8> = counts[..last].iter().flat_map(|c| c.to_le_bytes()).collect();
-    put_bytes(out, &bytes);
+    put_bytes(out, &case::used_bytes(counts));
 }
 
 /// What stands before the zeros at the end of a buffer.

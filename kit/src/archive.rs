@@ -28,12 +28,6 @@ impl Default for Expander {
     }
 }
 
-/// The operation of this name, if this checkout knows it.
-pub fn operation(name: &str) -> Result<Operation, String> {
-    let found = OPERATIONS.into_iter().find(|operation| operation.name() == name);
-    found.ok_or_else(|| format!("this checkout has no operation `{name}` yet"))
-}
-
 impl Expander {
     pub fn has_archive(&self) -> bool {
         self.machine.is_some()

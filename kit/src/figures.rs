@@ -41,8 +41,9 @@ pub struct Passed {
     pub largest: usize,
     /// Whether it is passed only when each Or is rewritten.
     pub rewritten: bool,
-    /// The first entry with which it is passed, from 0.
-    pub entry: usize,
+    /// The first entry with which it is passed, from 0, where that is known: of what is no tree, or is no tape that was given, it
+    /// is not.
+    pub entry: Option<usize>,
 }
 
 impl Figure {
@@ -139,7 +140,7 @@ pub fn passed(tree: &Node, longest_name: usize) -> Vec<Passed> {
 fn of_all(tree: &Node, rewritten: bool) -> Vec<Passed> {
     let count = Count::of(tree, rewritten);
     let passed = |(Measured { figure, largest, is }, entry): (_, Option<usize>)| {
-        entry.map(|entry| Passed { figure, is, largest, rewritten, entry })
+        entry.map(|_| Passed { figure, is, largest, rewritten, entry })
     };
     count.measured().into_iter().zip(count.over).filter_map(passed).collect()
 }
@@ -201,7 +202,7 @@ fn of_entries(tree: &Node, longest_name: usize) -> Vec<Passed> {
         let Measured { figure, largest, is } = of_entry(node, longest_name);
         // Behind a definition stand its name and the list, then a span and a name for each parameter.
         let entry = if figure == Figure::Parameters { at + 3 + 2 * largest } else { at };
-        found.extend((is > largest).then_some(Passed { figure, is, largest, rewritten: false, entry }));
+        found.extend((is > largest).then_some(Passed { figure, is, largest, rewritten: false, entry: Some(entry) }));
         at += 1;
     });
     found
@@ -222,7 +223,7 @@ fn of_entry(node: &Node, longest_name: usize) -> Measured {
 pub fn of_tape(bytes: &[u8], root: Sort, longest_name: usize) -> Vec<Passed> {
     let Ok(tree) = reading::tree(bytes, root) else {
         let over = of_sizes(bytes).into_iter().find(|size| size.is > size.largest);
-        let whole = |Measured { figure, largest, is }| Passed { figure, is, largest, rewritten: false, entry: 0 };
+        let whole = |Measured { figure, largest, is }| Passed { figure, is, largest, rewritten: false, entry: None };
         return over.map(whole).into_iter().collect();
     };
     passed(&tree, longest_name)
@@ -243,7 +244,7 @@ pub enum Whose {
     Merged,
 }
 
-/// Why a case is answered with 3. The entry is that of a tape that was given; otherwise it is 0.
+/// Why a case is answered with 3.
 pub fn explained(case: &Case) -> Option<(Whose, Passed)> {
     let (answer, notes) = model::answer(case);
     let whose = match notes.too_large {
@@ -259,7 +260,7 @@ pub fn explained(case: &Case) -> Option<(Whose, Passed)> {
         "text" => (Figure::Text, LARGEST.text),
         _ => (Figure::Nesting, LARGEST.nesting),
     };
-    Some((whose, Passed { figure, is: largest + notes.over_by, largest, rewritten: false, entry: 0 }))
+    Some((whose, Passed { figure, is: largest + notes.over_by, largest, rewritten: false, entry: None }))
 }
 
 fn first_of(case: &Case, i: usize, tape: &[u8]) -> Option<(Whose, Passed)> {
@@ -307,7 +308,7 @@ mod tests {
             assert_eq!(passed.is - passed.largest, notes.over_by, "{case:?}");
             let Whose::Tape(i) = whose else { continue };
             let Ok(tree) = reading::tree(&case.tapes[i], case.operation.roots()[i]) else { continue };
-            let at = nth(&tree, passed.entry);
+            let at = nth(&tree, passed.entry.expect("of a tree"));
             assert_eq!(model_name(&passed, &at), notes.reason, "{case:?}");
             kinds.insert((passed.figure.name(), passed.rewritten));
         }
@@ -321,10 +322,19 @@ mod tests {
         let tree = Node::counted(29, 1, strings);
         let found = passed(&tree, LARGEST_TEXT);
         let is = |i: usize, figure, is, entry| {
-            assert_eq!((found[i].figure, found[i].is, found[i].entry), (figure, is, entry));
+            assert_eq!((found[i].figure, found[i].is, found[i].entry), (figure, is, Some(entry)));
         };
         is(0, Figure::Entries, 1101, 1024);
         is(1, Figure::Text, 3300, 1025);
         assert_eq!(found.len(), 2);
+    }
+
+    /// Two sizes and nothing behind them are too large, and have no entry.
+    #[test]
+    fn what_has_no_entries_passes_a_figure_with_none() {
+        let case = Case::new(Operation::Profile, 0, vec![[2_000_u32.to_le_bytes(), [0; 4]].concat()]);
+        let passed =
+            Passed { figure: Figure::Entries, is: 2_000, largest: LARGEST.entries, rewritten: false, entry: None };
+        assert_eq!(explained(&case), Some((Whose::Tape(0), passed)));
     }
 }

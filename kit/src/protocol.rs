@@ -1,9 +1,9 @@
 //! Requests and responses as bytes. docs/SUPPLIER.md describes them.
 
 use crate::response::Response;
-use differential::case::{COUNTS, Case, Counts, OPERATIONS, Operation};
+use differential::case::{self, COUNTS, Case, Counts, OPERATIONS, Operation};
 use differential::vectors::without_zeros;
-use std::io::{self, Read};
+use std::io::{self, BufRead, Read};
 
 /// The operation of the request that asks what a head is and what it can do.
 pub const HELLO: u8 = 0;
@@ -20,12 +20,11 @@ fn framed(body: &[u8]) -> Vec<u8> {
 }
 
 /// The next frame, or nothing where the stream ends before one.
-pub fn read_frame(from: &mut impl Read) -> io::Result<Option<Vec<u8>>> {
+pub fn read_frame(from: &mut impl BufRead) -> io::Result<Option<Vec<u8>>> {
     let mut length = [0; 4];
-    match from.read(&mut length[..1])? {
-        0 => return Ok(None),
-        _ => from.read_exact(&mut length[1..])?,
-    }
+    let Some(first) = from.by_ref().bytes().next().transpose()? else { return Ok(None) };
+    length[0] = first;
+    from.read_exact(&mut length[1..])?;
     let length = u32::from_le_bytes(length) as usize;
     if length > LONGEST_FRAME {
         return Err(io::Error::other(format!("a frame of {length} bytes, where {LONGEST_FRAME} are the most")));
@@ -48,7 +47,7 @@ pub fn request(id: u32, case: &Case) -> Vec<u8> {
     body.extend(case.file.to_le_bytes());
     body.extend(case.index.to_le_bytes());
     case.sizes.iter().for_each(|size| body.extend((*size as u32).to_le_bytes()));
-    put_bytes(&mut body, &counts_bytes(&case.counts));
+    put_bytes(&mut body, &case::used_bytes(&case.counts));
     body.push(case.tapes.len() as u8);
     case.tapes.iter().for_each(|tape| put_bytes(&mut body, tape));
     framed(&body)
@@ -59,7 +58,7 @@ pub fn response(id: u32, response: &Response) -> Vec<u8> {
     response.words.iter().for_each(|word| body.extend(word.to_le_bytes()));
     put_bytes(&mut body, &response.result);
     put_bytes(&mut body, &response.message);
-    put_bytes(&mut body, &counts_bytes(&response.counts));
+    put_bytes(&mut body, &case::used_bytes(&response.counts));
     framed(&body)
 }
 
@@ -82,15 +81,17 @@ pub fn cut_to_fit(mut case: Case) -> Option<Case> {
     fits(&case).then_some(case)
 }
 
+/// Whether buffers may be so large: what is put into them goes back in a frame.
+pub fn check_sizes(sizes: &[usize; 3]) -> Result<(), String> {
+    match sizes.iter().find(|size| **size > LONGEST_FRAME) {
+        Some(size) => Err(format!("a buffer of {size} bytes, where {LONGEST_FRAME} are the most")),
+        None => Ok(()),
+    }
+}
+
 fn put_bytes(out: &mut Vec<u8>, bytes: &[u8]) {
     out.extend((bytes.len() as u32).to_le_bytes());
     out.extend_from_slice(bytes);
-}
-
-/// Without the zeros at their end.
-fn counts_bytes(counts: &Counts) -> Vec<u8> {
-    let last = counts.iter().rposition(|count| *count != 0).map_or(0, |i| i + 1);
-    counts[..last].iter().flat_map(|count| count.to_le_bytes()).collect()
 }
 
 /// What a request asks.
@@ -166,9 +167,7 @@ impl<'a> Reader<'a> {
         let file = u16::from_le_bytes(self.take(2)?.try_into().expect("2 bytes"));
         let index = self.u32()?;
         let sizes = [self.u32()? as usize, self.u32()? as usize, self.u32()? as usize];
-        if sizes.iter().any(|size| *size > LONGEST_FRAME) {
-            return Err(format!("buffers of {sizes:?} bytes"));
-        }
+        check_sizes(&sizes)?;
         let counts = self.counts()?;
         let count = self.take(1)?[0];
         let tapes = (0..count).map(|_| self.bytes().map(<[u8]>::to_vec)).collect::<Result<Vec<_>, _>>()?;
@@ -227,6 +226,24 @@ mod tests {
         assert!(cut_to_fit(case).is_none());
         let usual = generate::case(1, 7);
         assert!(cut_to_fit(usual.clone()) == Some(usual));
+    }
+
+    /// Read by byte, and a signal comes before each.
+    struct Interrupted<'a>(&'a [u8], bool);
+
+    impl Read for Interrupted<'_> {
+        fn read(&mut self, into: &mut [u8]) -> io::Result<usize> {
+            self.1 = !self.1;
+            if self.1 { Err(io::ErrorKind::Interrupted.into()) } else { self.0.read(&mut into[..1]) }
+        }
+    }
+
+    #[test]
+    fn a_signal_is_not_the_end() {
+        let bytes = framed(b"abc");
+        let mut pipe = io::BufReader::new(Interrupted(&bytes, false));
+        assert_eq!(read_frame(&mut pipe).expect("a frame").as_deref(), Some(&b"abc"[..]));
+        assert!(read_frame(&mut pipe).expect("the end").is_none());
     }
 
     #[test]

@@ -1,5 +1,6 @@
 //! What an expander answers to a case.
 
+use crate::numbers;
 use differential::case::{Case, Counts, Operation, Words};
 use differential::vectors::without_zeros;
 
@@ -34,5 +35,26 @@ impl Response {
 
     pub fn charged(&self) -> u64 {
         self.words[4]
+    }
+
+    /// What a refusal says: its message, or what its number means.
+    pub fn said(&self) -> String {
+        match &self.message[..] {
+            [] => numbers::meaning(self.number()).to_string(),
+            message => String::from_utf8_lossy(message).to_string(),
+        }
+    }
+}
+
+#[cfg(test)]
+mod tests {
+    use super::*;
+
+    #[test]
+    fn a_refusal_says_its_message_or_its_meaning() {
+        let case = Case::new(Operation::Check, 0, vec![]);
+        let said = |message: &[u8]| Response::new(&case, [30, 0, 0, 0, 0, 0, 0], &[], message, [0; _]).said();
+        assert_eq!(said(b"unknown macro `m`\0\0"), "unknown macro `m`");
+        assert_eq!(said(&[]), numbers::meaning(30));
     }
 }

@@ -56,6 +56,10 @@ impl Hello {
         Ok(Hello { name: line("name ").unwrap_or("").to_string(), operations, features: words("features ") })
     }
 
+    pub fn has_operation(&self, operation: Operation) -> bool {
+        self.operations.iter().any(|has| has == operation.name())
+    }
+
     pub fn has(&self, feature: &str) -> bool {
         self.features.iter().any(|has| has == feature)
     }

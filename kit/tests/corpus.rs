@@ -1,6 +1,6 @@
 //! The corpus as another language sees it: its files of JSON against their schema, against the frames, and replayed.
 //!
-//! What they are tested with is Python, and skipped with a word where there is no `python3`.
+//! What they are tested with is Python: `python3` is on the path, as README.md has it.
 
 use differential::{compare, model};
 use kit::archive::Expander;
@@ -50,17 +50,12 @@ fn corpus() -> &'static Path {
     })
 }
 
-/// Python with one of the programs beside this file; nothing if there is no Python.
-fn python(program: &Path) -> Option<Command> {
-    if Command::new("python3").arg("--version").output().is_err() {
-        // Past the harness, which keeps what a test that passes has printed.
-        let _ = writeln!(std::io::stderr(), "skipped: no python3 on the path");
-        return None;
-    }
+/// Python with one of the programs beside this file.
+fn python(program: &Path) -> Command {
     let mut command = Command::new("python3");
     // No folder of compiled files beside the sources.
     command.arg("-B").arg(program);
-    Some(command)
+    command
 }
 
 fn beside(program: &str) -> PathBuf {
@@ -100,11 +95,10 @@ fn asked(stdout: &str) -> Vec<(usize, usize)> {
 
 #[test]
 fn every_case_is_as_it_says_and_heads_answer_it() {
-    let Some(mut python) = python(&beside("corpus.py")) else { return };
     let heads = [Some(head_of_model()), head_in_c()].into_iter().flatten();
     let own = ["serve", "serve --model"].map(|words| format!("'{BINARY}' {words}"));
     let heads: Vec<String> = heads.map(|head| format!("'{}'", head.display())).chain(own).collect();
-    let (status, stdout, stderr) = run(python.arg(corpus()).args(&heads));
+    let (status, stdout, stderr) = run(python(&beside("corpus.py")).arg(corpus()).args(&heads));
     assert_eq!((status, stderr.as_str()), (0, ""), "{stdout}");
     // Each of these heads takes every case, and there are some.
     let asked = asked(&stdout);
@@ -135,8 +129,8 @@ fn the_work_buffer_holds_zeros() {
 #[test]
 fn a_wrong_head_is_found() {
     for (fault, expected) in [("none", 0), ("file-forgotten", 1)] {
-        let Some(mut python) = python(&beside("corpus.py")) else { return };
-        let (status, stdout, stderr) = run(python.arg(corpus()).arg(format!("'{BINARY}' wrong {fault}")));
+        let head = format!("'{BINARY}' wrong {fault}");
+        let (status, stdout, stderr) = run(python(&beside("corpus.py")).arg(corpus()).arg(head));
         assert_eq!((status, stderr.as_str()), (expected, ""), "{stdout}");
         assert!(matches!(asked(&stdout)[..], [(asked, all)] if asked > 300 && asked < all), "{stdout}");
         assert_eq!(stdout.contains("expand.success."), fault != "none", "{stdout}");
@@ -152,14 +146,12 @@ fn the_ten_lines_of_the_page_replay_a_file() {
     assert_eq!(lines.len(), 10, "{lines:#?}");
     let program = folder("replay.py");
     fs::write(&program, lines.join("\n")).expect("a file");
-    let replay = |file: &str, head: &str| {
-        Some(run(python(&program)?.arg(corpus().join(file)).arg(format!("'{BINARY}' {head}"))))
-    };
+    let replay =
+        |file: &str, head: &str| run(python(&program).arg(corpus().join(file)).arg(format!("'{BINARY}' {head}")));
     for file in ["expand.json", "preview.json", "check_at.json", "registry.json", "provider.json"] {
-        let Some(replayed) = replay(file, "serve") else { return };
-        assert_eq!(replayed, (0, String::new(), String::new()), "{file}");
+        assert_eq!(replay(file, "serve"), (0, String::new(), String::new()), "{file}");
     }
-    let (status, stdout, _) = replay("expand.json", "wrong file-forgotten").expect("it ran before");
+    let (status, stdout, _) = replay("expand.json", "wrong file-forgotten");
     assert!(
         status == 0 && stdout.lines().all(|line| line.starts_with("expand.")) && stdout.lines().count() > 5,
         "{stdout}"
@@ -191,21 +183,6 @@ fn the_same_figures_give_the_same_files() {
     let (names, contents) = files("corpus-once");
     assert!(files("corpus-again") == (names.clone(), contents), "{names:?}");
     assert_eq!(names.len(), 3 + 14 + 1, "{names:?}");
-}
-
-/// In a pipe nothing but the last line is written, on a terminal how far it is and how long it will take.
-#[test]
-fn progress_is_for_terminals() {
-    let (status, stdout, stderr) = corpus_of(&folder("corpus-in-a-pipe"), "4000");
-    assert_eq!((status, stdout.lines().count(), stderr.as_str()), (0, 1, ""), "{stdout}");
-    let Some(mut python) = python(&beside("terminal.py")) else { return };
-    let (status, seen, stderr) =
-        run(python.args([BINARY, "corpus", word(&folder("corpus-on-a-terminal")), "--cases", "8000"]));
-    assert_eq!((status, stderr.as_str()), (0, ""), "{seen}");
-    assert!(
-        seen.contains(" of 8,000 cases, ") && seen.contains(" left") && seen.contains("bytes of requests"),
-        "{seen:?}"
-    );
 }
 
 #[test]

@@ -2,7 +2,7 @@
 
 use differential::generate;
 use differential::tape::{self, Node};
-use kit::notation::{self, Spans};
+use kit::notation::{self, Reading, Spans};
 use kit::reading;
 use std::collections::BTreeSet;
 
@@ -119,6 +119,15 @@ fn spans_are_counted_from_the_text() {
     assert_eq!((not.value, not.children[0].value), (tape::span(20, 25), tape::span(21, 25)));
 }
 
+/// What has no head goes on at the margin, too.
+#[test]
+fn lines_may_end_anywhere_in_an_item() {
+    let text = "value\nv(x)\n=\n?x\n+\n1\nm\n(\nx\n)\n=\nformerly\n1h\n?x\nrule\na\n:\nm\n(\nP\n{\nf\n:\nv(1)\n}\n)\n";
+    let [one, other] = [text, &text.replace('\n', " ")].map(|text| notation::parse(text).expect("three items"));
+    assert_eq!((one.definitions.len(), one.rules.len()), (2, 1));
+    assert_eq!((one.definitions, one.rules), (other.definitions, other.rules));
+}
+
 #[test]
 fn operators_bind_as_the_page_says() {
     let same = |left: &str, right: &str| assert_eq!(condition(left), condition(right), "{left}");
@@ -145,8 +154,125 @@ fn mistakes_say_where_and_what_was_expected() {
     is("rule: formerly P{}", 15, "expected an interval such as 1h, or `?` and a parameter, found `P`");
     is("rule: exists q: T tp(q)", 18, "expected `,` behind the binder, found `tp`");
     is("rule: tp(", 9, "expected a variable, found the end");
-    is("rule: 5 == ", 11, "expected a condition or a term, found the end");
+    is("rule: 5 == \n\n// nothing", 10, "expected a condition or a term, found the end");
     is("rule: (1 + 2)@1..2 == 3", 13, "expected no span: of the terms only aggregates have one");
+}
+
+/// The deepest tape that is a tree for `show` is one for the notation too, whatever it nests, and one deeper is none for both.
+#[test]
+fn the_deepest_tapes_come_back() {
+    with_stack(deepest_tapes_come_back);
+}
+
+fn deepest_tapes_come_back() {
+    let span = tape::span(1, 2);
+    let tp = || Node::new(10, span, vec![text(43, "q")]);
+    let one = || Node::new(21, 1, vec![]);
+    let hour = || Node::new(50, 1, vec![]);
+    let call = |inner: Node| {
+        let arguments = Node::counted(41, 1, vec![inner]);
+        Node::new(11, span, vec![Node::new(54, span, vec![text(40, "m"), arguments])])
+    };
+    type Nested<'a> = (usize, Node, &'a dyn Fn(Node) -> Node);
+    // How many levels each has, what is innermost, and what each is around that.
+    let nested: [Nested; 12] = [
+        (1, tp(), &|inner| Node::new(3, span, vec![inner])),
+        (1, tp(), &|inner| Node::new(1, span, vec![inner, tp()])),
+        (1, tp(), &|inner| Node::new(2, span, vec![tp(), inner])),
+        (1, tp(), &|inner| Node::new(4, span, vec![hour(), inner])),
+        (1, tp(), &|inner| Node::new(6, span, vec![tp(), hour(), inner])),
+        (1, tp(), &|inner| Node::new(9, span, vec![text(45, "t"), Node::new(46, 0, vec![]), inner])),
+        (1, tp(), &|inner| Node::new(13, span, vec![Node::new(42, 0, vec![]), inner, Node::counted(41, 2, vec![])])),
+        (1, one(), &|inner| Node::counted(29, 1, vec![inner])),
+        (1, one(), &|inner| Node::new(31, 2, vec![one(), inner])),
+        (1, one(), &|inner| Node::new(31, 1, vec![inner, one()])),
+        (3, one(), &|inner| {
+            let compared = Node::new(8, span, vec![Node::new(53, 0, vec![]), inner, one()]);
+            Node::new(30, 0, vec![Node::new(35, span, vec![Node::counted(41, 2, vec![]), compared])])
+        }),
+        (4, tp(), &|inner| call(Node::new(55, 0, vec![inner]))),
+    ];
+    for (i, (levels, innermost, around)) in nested.into_iter().enumerate() {
+        let own = if innermost.children.is_empty() { 1 } else { 2 };
+        let often = (reading::DEEPEST - own) / levels;
+        let deepest = (0..often).fold(innermost, |inner, _| around(inner));
+        assert!(reading::tree(&tape::encode(&deepest), tape::Sort::Any).is_ok(), "{i}");
+        assert!(tape::encode(&reread(&deepest)) == tape::encode(&deepest), "{i}");
+        let deeper = around(deepest);
+        let why = reading::tree(&tape::encode(&deeper), tape::Sort::Any).expect_err("too deep");
+        assert!(why.to_string().contains("lies inside 1,100 others"), "{i}: {why}");
+        let mistake = notation::parse(&notation::print(&deeper, Spans::Written)).expect_err("too deep");
+        assert_eq!(mistake.what, "expected at most 1,100 entries inside one another", "{i}");
+    }
+}
+
+/// So do longer runs than one number may say.
+#[test]
+fn long_runs_come_back() {
+    let long = Node::counted(29, 1, vec![text(23, &"ü".repeat(20)); 4_096 * 2 + 1]);
+    for tree in [Node::with_text(27, &[0; 4_100]), text(23, &"ü".repeat(4_096 * 2)), long] {
+        assert!(tape::encode(&reread(&tree)) == tape::encode(&tree));
+    }
+}
+
+/// What a number repeats is bounded for the whole text, and told once with its place.
+#[test]
+fn what_is_repeated_is_bounded() {
+    let mistakes = |text: &str| {
+        let Reading { mistakes, document, .. } = notation::read(text);
+        (mistakes.into_iter().map(|mistake| (mistake.start, mistake.what)).collect::<Vec<_>>(), document.rules.len())
+    };
+    let entries = "expected at most 1,000,000 entries in the whole text".to_string();
+    assert_eq!(mistakes("rule: * == [[1; 4096]; 4096]"), (vec![(12, entries.clone())], 0));
+    assert_eq!(mistakes("rule: * == [[[1; 4096]; 4096]; 4096]").0, [(13, entries.clone())]);
+    // 245 × 4,096 entries are more, wherever they stand: side by side, in several rules, in rules with a mistake.
+    let arrays = vec!["1; 4096"; 250].join(", ");
+    let (told, rules) = mistakes(&format!("rule: tp(q)\nrule: * == [{arrays}]"));
+    assert_eq!((told, rules), (vec![(24 + 9 * 244, entries.clone())], 1));
+    let (told, rules) = mistakes(&"rule: * == [1; 4096]\n".repeat(250));
+    assert_eq!((told.len(), rules), (1, 243));
+    let (told, _) = mistakes(&"rule: * == [1; 4096] ~\n".repeat(250));
+    assert_eq!(told.iter().filter(|(_, what)| *what == entries).count(), 1);
+
+    let bytes = "expected at most 16,777,216 bytes of names and strings in the whole text".to_string();
+    let (told, rules) = mistakes(&format!("rule: tp(q)\nrule: * == [\"{}\"]", "a\\{4096}".repeat(9_000)));
+    assert_eq!((told, rules), (vec![(26 + 8 * 4097, bytes.clone())], 1));
+    let strings = "[\"a\\{4096}\"; 4096]";
+    assert_eq!(mistakes(&format!("rule: * == {strings}")), (vec![], 1));
+    assert_eq!(mistakes(&format!("rule: * == [{strings}, {strings}]")).0, [(12 + strings.len() + 3, bytes.clone())]);
+    let (told, rules) = mistakes(&"rule: tp('a\\{4096}')\n".repeat(4_200));
+    assert_eq!((told, rules), (vec![(4_096 * 21 + 6, bytes)], 4_096));
+}
+
+/// With the stack that the commands have; a test has less.
+fn with_stack(test: fn()) {
+    let thread = std::thread::Builder::new().stack_size(64 << 20).spawn(test).expect("a thread");
+    thread.join().unwrap_or_else(|panic| std::panic::resume_unwind(panic));
+}
+
+/// A text nests as deep to the left, where nothing has to be closed, as it does in parentheses.
+#[test]
+fn what_nests_is_bounded() {
+    with_stack(nesting_is_bounded);
+}
+
+fn nesting_is_bounded() {
+    let most = |text: &str, more: &str, often: usize, end: &str| {
+        let mistakes = notation::read(&format!("rule: {text}{}", format!("{more}\n").repeat(often) + end)).mistakes;
+        let [mistake] = &mistakes[..] else { panic!("{} mistakes", mistakes.len()) };
+        assert!(mistake.what.starts_with("expected less nesting, found `"), "{mistake:?}");
+        (mistake.start - 6 - text.len()) / (more.len() + 1)
+    };
+    let left = most("tp(a)", " && tp(a)", 300_000, "");
+    // The first braces are the predicate's own, and a comparison's right side is one deeper.
+    assert_eq!(most("P", "{}", 200_000, ""), left + 1);
+    assert_eq!(most("* == 1", " - 1", 200_000, ""), left - 1);
+    // What a sign or a parenthesis holds is told behind it.
+    assert_eq!([most("", "!", 100_000, "tp(q)"), most("", "(", 100_000, "tp(q)")], [left + 1; 2]);
+    // What stands in parentheses goes deeper with each operator behind them.
+    let inside = format!("{}tp(q){}", "(".repeat(left - 100), ")".repeat(left - 100));
+    assert_eq!(most(&inside, " && tp(a)", 1_000, ""), 100);
+    assert_eq!(most("", "tp(q) && (", 100_000, "tp(q)"), left.div_ceil(2));
 }
 
 /// The mistakes of a text, and how much of the rest is read: definitions, rules, and names of macros that are not.
@@ -175,6 +301,12 @@ fn behind_a_mistake_it_is_read_on() {
     is("rule a: tp(q) adn tp(r)\nrule b: tp(q)", &[14], 0, 1, "");
     is("m() = tp(q) = 5 rule b: tp(q)", &[12], 0, 1, "m");
     is("rule a: tp(q)\n) rule b: tp(q)", &[14], 0, 2, "");
+    // Behind a `;` an item begins, but not inside an array, as far as that goes.
+    is("rule a: P{f: [0; 5000]} && Q{}", &[17], 0, 0, "");
+    is("rule a: P{f: [0; 99999999999, m(1); 5000]} && Q{}; tp(q)", &[17], 0, 1, "");
+    is("rule a: P{f: [0, 1} ; tp(q)", &[18], 0, 1, "");
+    is("rule a: P{f: [m(1}] ; tp(q)", &[17], 0, 1, "");
+    is("m(x = tp(?x) ; k(y) = tp(?y)", &[4], 1, 0, "m");
 }
 
 /// Every entry has the place in the text that it was read from.

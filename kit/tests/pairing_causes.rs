@@ -9,12 +9,15 @@ use std::{env, fs};
 const KIT: &str = env!("CARGO_MANIFEST_DIR");
 
 /// What `kit/heads/model.rs` is made of another program by: it fails, or answers something else, where it has answered.
-const EDITS: [(&str, &str); 1] = [(
-    "    let (a, _) = model::answer(&case);\n",
-    "    fail(&case);\n    let (a, _) = model::answer(&case);\n    let a = wrong(&case, a);\n",
-)];
+const EDITS: [(&str, &str); 2] = [
+    (
+        "    let (a, _) = model::answer(&case);\n",
+        "    fail(&case);\n    let (a, _) = model::answer(&case);\n    let a = wrong(&case, a);\n",
+    ),
+    ("cfg!(feature = \"weeks\").then_some", "(std::env::args().nth(1).as_deref() != Some(\"no-weeks\")).then_some"),
+];
 
-/// Three ways to be wrong, and two to end, of which the first word of the command line chooses.
+/// Three ways to be wrong, two to end, one that what was asked before matters for, and one that knows no weeks, of which the first word of the command line chooses.
 const WRONG: &str = r#"
 fn wrong(case: &Case, mut a: differential::case::Answer) -> differential::case::Answer {
     if std::env::args().nth(1).as_deref() == Some("three-ways") {
@@ -27,6 +30,21 @@ fn wrong(case: &Case, mut a: differential::case::Answer) -> differential::case::
             }
             _ => {}
         }
+    }
+    if std::env::args().nth(1).as_deref() == Some("no-weeks") && a.number == 0 && !a.result.is_empty() {
+        let entries = u32::from_le_bytes(a.result[..4].try_into().expect("4 bytes")) as usize;
+        // Behind an interval in days something is wrong: of a substitution the last entry, of an expansion the charge.
+        match case.operation {
+            _ if !a.result[8..8 + entries].contains(&51) => {}
+            Operation::Expand => a.charged += 1,
+            Operation::Substitute => a.result[8 + entries + 8 * (entries - 1)] ^= 1,
+            _ => {}
+        }
+    }
+    if std::env::args().nth(1).as_deref() == Some("remembers") && case.operation == Operation::Expand && a.number == 0 {
+        static ASKED: std::sync::atomic::AtomicU32 = std::sync::atomic::AtomicU32::new(0);
+        let asked = ASKED.fetch_add(1, std::sync::atomic::Ordering::Relaxed);
+        a.charged += u64::from((2..12).contains(&asked) || a.charged >= 60);
     }
     a
 }
@@ -96,6 +114,44 @@ fn three_ways_to_be_wrong_are_three_causes() {
     }
     let (status, text) = pair(&head, &["--cases", "6000", "--only", "registry,merge,judge"]);
     assert!(status == 0 && text.ends_with(": no difference\n"), "{text}");
+}
+
+/// What is shown and judged is what is compared: with a head that knows no weeks, older tapes.
+#[test]
+fn with_a_head_without_weeks_older_tapes_are_shown() {
+    let more = ["--keep-going", "--cases", "3000", "--only", "substitute,expand", "--as-found"];
+    let (status, text) = pair(&head("no-weeks"), &more);
+    assert!(status == 1 && text.contains("expand, 0 in A and 0 in B, first the charge\n"), "{text}");
+    assert!(text.contains(" of A: 0, equal to ours\n"), "{text}");
+    assert!(text.contains(" of B: 0, equal to ours\n"), "{text}");
+    assert!(!text.contains(": 50, ") && text.contains("One of the two has no weeks"), "{text}");
+    // The entry that is named is the one that the cause names.
+    let causes = text.split("\nCause ").filter_map(|cause| cause.split_once("first an entry "));
+    let mut seen = 0;
+    for (codes, (_, named)) in
+        causes.filter_map(|(_, cause)| Some((cause, cause.split_once("the difference: the result; entry ")?)))
+    {
+        let code = codes.split(' ').next().expect("a code");
+        assert!(named.split_once(" is ").expect("an entry").1.starts_with(&format!("{code} ")), "{text}");
+        seen += 1;
+    }
+    assert!(seen > 0, "{text}");
+}
+
+/// The first cases of its cause show it after others alone, a later one by itself.
+#[test]
+fn a_case_that_shows_it_by_itself_is_looked_for() {
+    let found = format!("{}/remembers", env!("CARGO_TARGET_TMPDIR"));
+    let _ = fs::remove_file(&found);
+    let more = ["--keep-going", "--cases", "600", "--from", "20", "--only", "expand", "--found", &found];
+    let (status, text) = pair(&head("remembers"), &more);
+    assert!(status == 1 && text.contains("\nCause 1 of 1: expand, 0 in A and 0 in B, first the charge\n"), "{text}");
+    assert!(
+        text.contains("; the first that shows it by itself is case ") && text.contains(" made smaller from "),
+        "{text}"
+    );
+    assert!(!text.contains("what was asked before it matters"), "{text}");
+    assert_eq!(fs::read_to_string(&found).expect("a file").matches("\nend\n").count(), 1);
 }
 
 #[test]

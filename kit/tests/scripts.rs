@@ -1,5 +1,8 @@
 //! The scripts `../neukolja` and `heads/build`, each in a folder of its own, with programs that stand in for rt, cargo and cc.
 
+mod common;
+
+use common::outside;
 use std::io::Write;
 use std::os::unix::fs::PermissionsExt;
 use std::path::{Path, PathBuf};
@@ -9,14 +12,9 @@ use std::{env, fs};
 
 const KIT: &str = env!("CARGO_MANIFEST_DIR");
 
-/// Where the folders of this run are: outside of this checkout, in which rt would take their crates for its own.
-fn scratch() -> PathBuf {
-    env::temp_dir().join(format!("neukolja-scripts-{}", std::process::id()))
-}
-
 /// A folder of this name with nothing in it.
 fn folder(name: &str) -> PathBuf {
-    let path = scratch().join(name);
+    let path = outside("scripts").join(name);
     fs::create_dir_all(&path).expect("a folder");
     path
 }
@@ -52,15 +50,17 @@ fn the_archive_is_found_and_built() {
     help_and_version_need_nothing();
     on_a_terminal_the_end_is_in_sight();
     nobody_else_reads_what_is_for_the_kit();
+    it_is_started_from_anywhere();
+    where_nothing_can_be_printed_it_ends_with_2();
     cargo_takes_no_archive_too();
     a_head_takes_the_archive_of_its_checkout();
-    fs::remove_dir_all(scratch()).expect("a folder");
+    fs::remove_dir_all(outside("scripts")).expect("a folder");
 }
 
 /// What `../neukolja` itself runs. Neither rt nor cargo is among them, nor git.
-const TOOLS: [&str; 18] = [
-    "awk", "basename", "bash", "cat", "cksum", "cp", "dirname", "find", "grep", "mkdir", "mktemp", "mv", "rm", "sed",
-    "sh", "sleep", "tail", "tee",
+const TOOLS: [&str; 19] = [
+    "awk", "basename", "bash", "cat", "cksum", "cp", "dirname", "find", "grep", "mkdir", "mktemp", "mv", "readlink",
+    "rm", "sed", "sh", "sleep", "tail", "tee",
 ];
 
 /// A checkout with a kit that says what it was given, a cargo that builds it, and no rt.
@@ -94,10 +94,8 @@ impl Checkout {
         write(&top.join("crates.txt"), "low:\nhigh: low\nother: low\nneukolja staticlib: high # and so low\n");
         let it = Checkout { top, bin };
         let version = r#"[ "$1" != --version ] || { echo "the kit by itself"; echo "archive: BUILT"; exit; }"#;
-        program(
-            &it.top.join("kit.made"),
-            &format!("{version}\necho \"the kit: $* ${{NEUKOLJA_ARCHIVE:-with no archive}}\""),
-        );
+        let said = "echo \"the kit: $*, built with BUILT\"\necho \"given ${NEUKOLJA_ARCHIVE-nothing}\"";
+        program(&it.top.join("kit.made"), &format!("{version}\n{said}"));
         it.cargo("");
         it
     }
@@ -106,7 +104,7 @@ impl Checkout {
     fn cargo(&self, lines: &str) {
         let [folder, kit, made] = ["kit/target/release", "kit/target/release/kit", "kit.made"]
             .map(|path| self.top.join(path).display().to_string());
-        let archive = "${NEUKOLJA_ARCHIVE:-none; the model}${NEUKOLJA_ARCHIVE:+, with check}";
+        let archive = "${NEUKOLJA_ARCHIVE-none; the model}${NEUKOLJA_ARCHIVE+, with check}";
         let build = format!("mkdir -p {folder} && cp {made} {kit} && sed \"s:BUILT:{archive}:\" {made} >{kit}");
         program(&self.bin.join("cargo"), &format!("{lines}\n{build}"));
     }
@@ -127,9 +125,17 @@ impl Checkout {
         command
     }
 
+    /// Where the kit ran, what it starts is given what the user gave, whatever archive was found.
     fn run(&self, words: &[&str], archive: Option<&str>) -> Ran {
         let Output { status, stdout, stderr } = self.command(words, archive).output().expect("bash runs");
-        let [out, err] = [stdout, stderr].map(|bytes| String::from_utf8(bytes).expect("UTF-8"));
+        let [mut out, err] = [stdout, stderr].map(|bytes| String::from_utf8(bytes).expect("UTF-8"));
+        if out.starts_with("the kit: ") {
+            let given = format!("given {}\n", archive.unwrap_or("nothing"));
+            out = out
+                .strip_suffix(&given)
+                .unwrap_or_else(|| panic!("{given:?} is not at the end of {out:?}"))
+                .to_string();
+        }
         (status.code().expect("an exit status"), out, err)
     }
 
@@ -144,14 +150,14 @@ impl Checkout {
     /// That the kit ran with no archive, and this was said.
     fn by_model(&self, why: &str) -> Ran {
         let said = format!("neukolja: the model in differential/ answers: {why}\n");
-        (0, "the kit: expand x.rules with no archive\n".to_string(), said)
+        (0, "the kit: expand x.rules, built with none; the model\n".to_string(), said)
     }
 
     /// That the kit ran with this archive, and this was said.
     fn by_archive(&self, archive: &Path, why: &str) -> Ran {
         let short = archive.strip_prefix(&self.top).unwrap_or(archive).display();
         let said = format!("neukolja: the archive answers, {short}: {why}\n");
-        (0, format!("the kit: expand x.rules {}\n", archive.display()), said)
+        (0, format!("the kit: expand x.rules, built with {}, with check\n", archive.display()), said)
     }
 }
 
@@ -358,8 +364,11 @@ fn on_a_terminal_the_end_is_in_sight() {
         "neukolja: rt proves low, crate 1 of 3, ",
         "rt: waiting for another\r\n",
         "neukolja: rt proves high, crate 2 of 3, ",
-        "neukolja: cargo builds the kit, 1 s; the last time it took 42 s",
-        "\r\x1B[Kneukolja: cargo builds the kit, 2 s; the last",
+        // A second that a busy machine takes for something else is not shown.
+        "neukolja: cargo builds the kit, ",
+        " s; the last time it took 42 s",
+        "\r\x1B[Kneukolja: cargo builds the kit, ",
+        " s; the last",
         "\r\x1B[Kneukolja: the archive answers, crates/neukolja/out/libneukolja.a: rt has just built it\r\nthe kit: ",
     ] {
         let at = rest.find(part).unwrap_or_else(|| panic!("{part:?} is not in {rest:?}"));
@@ -388,6 +397,41 @@ fn nobody_else_reads_what_is_for_the_kit() {
     );
 }
 
+/// From beside it, through a link, and with a CDPATH, with which `cd` prints where it goes.
+fn it_is_started_from_anywhere() {
+    let (it, link) = (Checkout::new("anywhere"), folder("links").join("neukolja"));
+    std::os::unix::fs::symlink(it.top.join("neukolja"), &link).expect("a link");
+    write(&it.top.join("kept/libneukolja.a"), "");
+    for script in [Path::new("anywhere/neukolja"), &link] {
+        let run = |words: &[&str]| {
+            let mut command = Command::new(it.bin.join("bash"));
+            command.arg(script).args(words).current_dir(outside("scripts")).env("CDPATH", ".").env("PATH", &it.bin);
+            let output = command.env("NEUKOLJA_ARCHIVE", "anywhere/kept/libneukolja.a").output().expect("bash runs");
+            let [out, err] = [output.stdout, output.stderr].map(|bytes| String::from_utf8(bytes).expect("UTF-8"));
+            (output.status.code(), out, err)
+        };
+        let help = fs::read_to_string(it.top.join("kit/help/expand.txt")).expect("a text");
+        assert_eq!(run(&["expand", "--help"]), (Some(0), help, String::new()), "{}", script.display());
+        let (status, out, err) = run(&["expand", "x.rules"]);
+        let built = format!("built with {}/kept/libneukolja.a, with check\n", it.top.display());
+        assert!(status == Some(0) && out.contains(&built), "{}: {out}{err}", script.display());
+    }
+}
+
+fn where_nothing_can_be_printed_it_ends_with_2() {
+    let it = Checkout::new("closed");
+    for closed in [">&-", ">&- 2>&-"] {
+        for words in [&["expand", "x.rules"][..], &["--help"], &["--version"], &[]] {
+            let script = it.top.join("neukolja");
+            let mut command = Command::new(it.bin.join("bash"));
+            command.args(["-c", &format!("bash \"$0\" \"$@\" {closed}")]).arg(script).args(words).env("PATH", &it.bin);
+            let output = command.output().expect("bash runs");
+            let said = if closed == ">&-" { "neukolja: standard output is closed\n" } else { "" };
+            assert_eq!((output.status.code(), String::from_utf8_lossy(&output.stderr).as_ref()), (Some(2), said));
+        }
+    }
+}
+
 /// `none` is taken wherever an archive may be named: cargo too runs on without one.
 fn cargo_takes_no_archive_too() {
     let (top, build) = (folder("no-archive"), Path::new(KIT).join("../differential/build.rs"));
@@ -410,15 +454,17 @@ fn cargo_takes_no_archive_too() {
 }
 
 fn a_head_takes_the_archive_of_its_checkout() {
-    let (top, script) = (folder("heads"), Path::new(KIT).join("heads/build"));
-    let (bin, out) = (top.join("bin"), top.join("head"));
+    let top = folder("heads");
+    let (bin, out, script) = (top.join("bin"), top.join("head"), top.join("build"));
+    std::os::unix::fs::symlink(Path::new(KIT).join("heads/build"), &script).expect("a link");
     program(&bin.join("cc"), r#"echo "linked: $*""#);
     let word = |path: &Path| path.to_str().expect("a path").to_string();
     let build = |checkout: &Path, more: &[&str]| {
         run(&script, &[&[&word(checkout)[..], &word(&out)][..], more].concat(), &bin, None)
     };
     let linked = |(status, text): (i32, String), archive: &Path| {
-        assert!(status == 0 && text.contains(&format!(" {} -o {}\n", archive.display(), out.display())), "{text}");
+        let linked = format!(" {KIT}/heads/head.c {} -o {}\n", archive.display(), out.display());
+        assert!(status == 0 && text.contains(&linked), "{text}");
     };
     let missing = |(status, text): (i32, String), archive: &Path, made: &str| {
         assert!(status == 2 && text.starts_with(&format!("{} is missing", archive.display())), "{text}");
@@ -439,6 +485,12 @@ fn a_head_takes_the_archive_of_its_checkout() {
     missing(build(&today, &[]), &today.join(new), "`rt lib`");
     write(&today.join(new), "");
     linked(build(&today, &[]), &today.join(new));
+
+    let model = Path::new(KIT).join("heads/build-model");
+    for script in [&script, &model] {
+        let (status, text) = run(script, &["/no/such/checkout", &word(&out)], &bin, None);
+        assert!(status == 2 && text.starts_with("/no/such/checkout: no checkout, "), "{text}");
+    }
 
     let kept = top.join("kept.a");
     missing(build(&earlier, &[&word(&kept)]), &kept, "");

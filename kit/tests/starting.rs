@@ -1,9 +1,16 @@
 //! What a user types first: help and options; and where what is printed goes: answers to standard output, what is said of them to
 //! standard error, and what cannot be written to the exit status.
 
+mod common;
+
+use common::outside;
 use std::collections::BTreeMap;
-use std::fs::{self, File};
+use std::ffi::OsStr;
+use std::fs::{self, File, Permissions};
 use std::io::Write;
+use std::os::unix::ffi::OsStrExt;
+use std::os::unix::fs::PermissionsExt;
+use std::path::Path;
 use std::process::{Command, Output, Stdio};
 
 const HELP: &str = concat!(env!("CARGO_MANIFEST_DIR"), "/help");
@@ -199,6 +206,90 @@ fn what_one_command_prints_another_reads() {
     assert_eq!(check(true), ["5 macros, 0 rules, 0 mistakes\n", ""]);
 }
 
+/// The kit run by bash behind these commands, for what is set for a process.
+fn behind(commands: &str, words: &[&str]) -> (i32, String, String) {
+    let script = format!("{commands}; exec \"$0\" \"$@\"");
+    let kit = ["-c", &script, env!("CARGO_BIN_EXE_kit")];
+    let Output { status, stdout, stderr } = Command::new("bash").args(kit).args(words).output().expect("bash runs");
+    let [out, err] = [stdout, stderr].map(|bytes| String::from_utf8_lossy(&bytes).to_string());
+    (status.code().expect("an exit status"), out, err)
+}
+
+#[test]
+fn a_command_that_cannot_begin_ends_with_2() {
+    let word = OsStr::from_bytes(b"x\xFF.rules");
+    let output = Command::new(env!("CARGO_BIN_EXE_kit")).arg("check").arg(word).output().expect("the kit runs");
+    let said = "`x\u{FFFD}.rules` is no UTF-8, as each word of a command has to be\n";
+    assert_eq!((output.status.code(), String::from_utf8(output.stderr).as_deref()), (Some(2), Ok(said)));
+    // Too little memory for the stack of its thread.
+    let (status, out, err) = behind("ulimit -v 50000", &["--version"]);
+    assert!(status == 2 && out.is_empty() && err.starts_with("no thread for the command: "), "{err}");
+}
+
+/// A folder of this name with nothing in it.
+fn folder(name: &str) -> String {
+    let path = format!("{}/{name}", env!("CARGO_TARGET_TMPDIR"));
+    let _ = fs::remove_dir_all(&path);
+    fs::create_dir(&path).expect("a folder");
+    path
+}
+
+#[test]
+fn a_tape_goes_to_standard_output_where_that_is_named() {
+    let bytes = |words: &[&str]| {
+        let output = Command::new(env!("CARGO_BIN_EXE_kit")).args(words).current_dir(folder("piped")).output();
+        let Output { status, stdout, .. } = output.expect("the kit runs");
+        assert!(status.success(), "{words:?}");
+        stdout
+    };
+    let tape = bytes(&["tape", LOCKOUT, "--macros"]);
+    for words in [&["tape", LOCKOUT, "--macros", "-o", "-"][..], &["merge", LOCKOUT, LOCKOUT, "-o", "-"]] {
+        assert_eq!(bytes(words), tape, "{words:?}");
+    }
+    // Nothing else goes there.
+    let path = format!("{}/boost.tape", folder("tapes"));
+    let expand = ["expand", LOCKOUT, "--rule", "three boosts a day", "-o"];
+    assert_eq!(kit(&[&expand[..], &[&path]].concat()).0, 0);
+    assert_eq!(bytes(&[&expand[..], &["-"]].concat()), fs::read(&path).expect("a tape"));
+    assert_eq!(fs::read_dir(Path::new(&path).with_file_name("../piped")).expect("a folder").count(), 0);
+}
+
+/// Nothing is left of one that cannot be written, and what stood there before stays.
+#[test]
+fn a_tape_is_written_whole_or_not_at_all() {
+    let folder = outside("whole-tape");
+    let [rules, tape, link] =
+        ["wide.rules", "wide.tape", "link.tape"].map(|name| format!("{}/{name}", folder.display()));
+    fs::write(&rules, format!("rule: P{{f: [{}]}}", ["1"; 300].join(", "))).expect("a file");
+    let write = |to: &str, limit: &str| behind(limit, &["tape", &rules, "-o", to]);
+    let too_long = "ulimit -f 1; trap '' XFSZ";
+    let (status, _, err) = write(&tape, too_long);
+    assert!(status == 2 && err.starts_with(&format!("{tape}: File too large")), "{err}");
+    assert!(!fs::exists(&tape).expect("a folder"));
+    fs::write(&tape, "before").expect("a file");
+    fs::set_permissions(&tape, Permissions::from_mode(0o640)).expect("a file");
+    std::os::unix::fs::symlink(&tape, &link).expect("a link");
+    assert_eq!(write(&tape, too_long).0, 2);
+    assert_eq!(fs::read(&tape).expect("a file"), b"before");
+    assert_eq!(write(&link, "true").0, 0);
+    assert!(fs::symlink_metadata(&link).expect("a link").is_symlink());
+    assert_eq!(fs::metadata(&tape).expect("a file").permissions().mode() & 0o777, 0o640);
+    assert!(fs::read(&tape).expect("a tape").len() > 1024);
+    assert_eq!(fs::read_dir(&folder).expect("a folder").count(), 3);
+    fs::remove_dir_all(&folder).expect("a folder");
+}
+
+/// Some files have no end.
+#[test]
+fn so_much_is_read_and_no_more() {
+    let said = |path: &str| format!("{path}: more than 16 MiB, which are read at the most\n");
+    for command in ["check", "show", "expand", "profile"] {
+        assert_eq!(kit(&[command, "/dev/zero"]), (2, String::new(), said("/dev/zero")));
+    }
+    let (status, _, err) = behind("exec </dev/full", &["check", "-"]);
+    assert_eq!((status, err), (2, said("-")));
+}
+
 /// Long work says on a terminal how far it is, and in a pipe nothing.
 #[test]
 fn the_corpus_says_how_far_it_is() {
@@ -209,6 +300,6 @@ fn the_corpus_says_how_far_it_is() {
     let line = format!("{} {} >{folder}/out", env!("CARGO_BIN_EXE_kit"), corpus.join(" "));
     let terminal = Command::new("script").args(["-qec", &line, "/dev/null"]).output().expect("script runs");
     let shown = String::from_utf8(terminal.stdout).expect("UTF-8");
-    assert!(shown.contains(" of 5,000 cases, ") && shown.ends_with("\r\x1B[K"), "{shown:?}");
+    assert!(shown.contains(" of 5,000 cases") && shown.ends_with("\r\x1B[K"), "{shown:?}");
     assert_eq!(fs::read_to_string(format!("{folder}/out")).expect("a file"), out);
 }

@@ -1,6 +1,9 @@
 //! docs/TRANSCRIPT.md, typed again: every command of the page, one after another in a checkout, and each line that it prints
 //! against the line that stands there. And that the tests are there of which README.md says what they show.
 
+mod common;
+
+use common::outside;
 use kit::archive::LINKED;
 use std::path::{Path, PathBuf};
 use std::process::{Command, Output, Stdio};
@@ -120,8 +123,7 @@ fn typed(command: &str, top: &Path) -> (String, i32) {
 
 /// A checkout in which the kit is built: this one, as it is linked. So its cargo has nothing to do.
 fn checkout() -> PathBuf {
-    let (top, real) = (Path::new(env!("CARGO_TARGET_TMPDIR")).join("transcript"), Path::new(KIT).join(".."));
-    let _ = fs::remove_dir_all(&top);
+    let (top, real) = (outside("transcript"), Path::new(KIT).join(".."));
     for folder in ["bin", "examples", "kit/target/release"] {
         fs::create_dir_all(top.join(folder)).expect("a folder");
     }
@@ -153,6 +155,7 @@ fn the_page_is_true() {
     }
     let wrong: Vec<String> = steps.iter().filter_map(|step| step.typed(&top).err()).collect();
     assert!(wrong.is_empty(), "{}", wrong.join("\n"));
+    fs::remove_dir_all(&top).expect("a folder");
 }
 
 /// Whatever is otherwise than the page has it.
@@ -192,7 +195,7 @@ fn each_row_has_its_tests() {
     let page = fs::read_to_string(Path::new(KIT).join("README.md")).expect("README.md");
     let table = page.lines().skip_while(|line| !line.starts_with("| tried |")).skip(2);
     let rows: Vec<&str> = table.take_while(|line| line.starts_with('|')).collect();
-    assert_eq!(rows.len(), 12, "{rows:#?}");
+    assert_eq!(rows.len(), 30, "{rows:#?}");
     for row in rows {
         let cell = row.trim_end_matches([' ', '|']).rsplit(" | ").next().expect("a cell");
         let named: Vec<(&str, &str)> = cell.split('`').filter_map(|word| word.split_once("::")).collect();

@@ -5,7 +5,8 @@ use super::expand::NO_LIMIT;
 use super::input::Rules;
 use super::mistakes::{self, Search};
 use super::{Done, counted, say_who};
-use crate::archive::{self, Expander};
+use crate::archive::Expander;
+use differential::case::Operation;
 
 pub fn check(words: &[String]) -> Result<Done, String> {
     let args = Args::parse(words, &["--limit", "--file", "--format"], &[])?;
@@ -23,7 +24,7 @@ pub fn check(words: &[String]) -> Result<Done, String> {
     if is_json {
         say!("{:#}", mistakes::json(&rules, &findings));
     } else {
-        say_who(&expander, archive::operation("check")?);
+        say_who(&expander, Operation::Check);
         findings.iter().for_each(|finding| say!("{}", mistakes::text(&rules, finding)));
         let [macros, conditions] = [(rules.macros.len(), "macro"), (rules.conditions.len(), "rule")];
         let [macros, conditions] = [macros, conditions].map(|(n, what)| counted(n, what));

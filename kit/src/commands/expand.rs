@@ -2,16 +2,16 @@
 
 use super::args::Args;
 use super::input::{self, Rules};
-use super::mistakes::{self, Finding, Search};
+use super::mistakes::{self, Search};
 use super::show::result_tree;
 use super::{Done, refusal, say_who, with_figure, write_out};
-use crate::archive::{self, Expander};
-use crate::figures;
+use crate::archive::Expander;
+use crate::figures::{self, Whose};
 use crate::notation;
 use crate::pair;
 use crate::reading;
 use crate::response::Response;
-use differential::case::{COUNTS, Case, Counts};
+use differential::case::{COUNTS, Case, Counts, Operation};
 
 /// What the reference runs use.
 pub const NO_LIMIT: u32 = u32::MAX;
@@ -49,8 +49,7 @@ struct Answered {
 
 impl Asked {
     /// The answer to each condition, each with the counts that the one before it gave back.
-    fn answers(&self, expander: &mut Expander, operation: &str) -> Result<(Vec<Answered>, Counts), String> {
-        let operation = archive::operation(operation)?;
+    fn answers(&self, expander: &mut Expander, operation: Operation) -> (Vec<Answered>, Counts) {
         let mut counts = [0; COUNTS];
         let answers = self.chosen.iter().map(|&i| {
             let tapes = vec![self.rules.registry.clone(), self.rules.conditions[i].tape.clone()];
@@ -60,12 +59,12 @@ impl Asked {
             counts = if operation.has_counts() { response.counts } else { counts };
             Answered { i, case, response }
         });
-        let answers = answers.collect();
-        Ok((answers, counts))
+        (answers.collect(), counts)
     }
 
-    fn name(&self, i: usize) -> &str {
-        &self.rules.conditions[i].name
+    /// The name of a condition as it is told.
+    fn name(&self, i: usize) -> String {
+        notation::visible(&self.rules.conditions[i].name)
     }
 
     /// A refusal of an operation that expands, with its place.
@@ -74,11 +73,24 @@ impl Asked {
         Ok(mistakes::text(&self.rules, &finding))
     }
 
-    /// The figure that the tape of a condition as it was given passes, with its place.
-    fn figure(&self, expander: &mut Expander, i: usize, case: &Case) -> Option<Finding> {
-        let (_, passed) = figures::explained(case)?;
-        let found = Search::new(&self.rules, expander, self.limit, self.file).figures_of_rule(i);
-        found.into_iter().find(|finding| finding.passed.is_some_and(|(_, own)| own == passed))
+    /// Why a condition is not fit for the battery head: as it was expanded or, if it was not, as it stands.
+    fn unfit(&self, expander: &mut Expander, i: usize, expanded: Option<Vec<u8>>) -> Option<String> {
+        let is_expanded = expanded.is_some();
+        let tape = expanded.unwrap_or_else(|| self.rules.conditions[i].tape.clone());
+        let case = Case::new(Operation::Profile, 0, vec![tape]);
+        let response = expander.answer(&case);
+        let mut search = Search::new(&self.rules, expander, self.limit, self.file);
+        let found = match response.number() {
+            0 => return None,
+            53..=55 => search.unfit(i, is_expanded, &response),
+            // What was expanded was accepted before.
+            _ if is_expanded => None,
+            _ => search.own_refusal(i, &case, &response),
+        };
+        Some(match found {
+            Some(found) => mistakes::text(&self.rules, &found),
+            None => with_figure(&case, refusal(&response, None)),
+        })
     }
 
     /// The one condition that is asked for.
@@ -103,44 +115,44 @@ pub fn expand(words: &[String]) -> Result<Done, String> {
         asked.only("written")?;
     }
     let mut expander = Expander::default();
-    let (answers, counts) = asked.answers(&mut expander, "expand")?;
-    say_who(&expander, archive::operation("expand")?);
+    let (answers, counts) = asked.answers(&mut expander, Operation::Expand);
+    say_who(&expander, Operation::Expand);
+    // Where the tape goes to standard output, nothing else does.
+    let tell = |line: String| if args.value("-o") == Some("-") { note!("{line}") } else { say!("{line}") };
     for Answered { i, case, response } in &answers {
         let name = asked.name(*i);
         match result_tree(&response.result).filter(|_| response.number() == 0) {
             Some(tree) => {
-                say!("{name}: expanded, {} charged", response.charged());
+                tell(format!("{name}: expanded, {} charged", response.charged()));
                 match args.value("-o") {
                     Some(path) => drop(write_out(Some(path), &reading::with_zeros(&response.result))?),
                     None => say!("    {}", notation::print_lines(&tree).join("\n    ")),
                 }
             }
-            None => say!("{name}: {}", asked.refused(&mut expander, *i, case, response)?),
+            None => tell(format!("{name}: {}", asked.refused(&mut expander, *i, case, response)?)),
         }
     }
-    print_counts(&asked.rules, &counts);
+    used(&asked.rules, &counts).map(tell);
     Ok(ended(&answers))
 }
 
-/// How often each macro was used.
-fn print_counts(rules: &Rules, counts: &Counts) {
+/// How often each macro was used, if there are any.
+fn used(rules: &Rules, counts: &Counts) -> Option<String> {
     let used: Vec<String> = rules
         .definitions
         .iter()
         .zip(counts)
         .map(|(definition, count)| format!("{} {count}", notation::name(&definition.children[0].text)))
         .collect();
-    if !used.is_empty() {
-        say!("calls substituted: {}", used.join(", "));
-    }
+    (!used.is_empty()).then(|| format!("calls substituted: {}", used.join(", ")))
 }
 
 pub fn preview(words: &[String]) -> Result<Done, String> {
     let args = Args::parse(words, &["--limit", "--file", "--rule"], &[])?;
     let asked = asked(&args, args.words(1, 2, "preview")?)?;
     let mut expander = Expander::default();
-    let (answers, _) = asked.answers(&mut expander, "preview")?;
-    say_who(&expander, archive::operation("preview")?);
+    let (answers, _) = asked.answers(&mut expander, Operation::Preview);
+    say_who(&expander, Operation::Preview);
     for Answered { i, case, response } in &answers {
         let [.., entries, text] = response.words;
         let name = asked.name(*i);
@@ -162,24 +174,57 @@ pub fn judge(words: &[String]) -> Result<Done, String> {
     let (supplied, paths) = words.split_last().expect("two or three");
     let asked = asked(&args, paths)?;
     let i = asked.only("judged")?;
-    let operation = archive::operation("judge")?;
+    let operation = Operation::Judge;
     let mut expander = Expander::default();
-    let condition = &asked.rules.conditions[i];
-    let tapes = vec![asked.rules.registry.clone(), condition.tape.clone(), input::tape(supplied)?];
+    let name = asked.name(i);
+    let tapes = vec![asked.rules.registry.clone(), asked.rules.conditions[i].tape.clone(), input::tape(supplied)?];
     let mut case = Case::new(operation, asked.limit, tapes);
     case.file = asked.file;
     let response = expander.answer(&case);
     say_who(&expander, operation);
     match response.number() {
-        0 => say!("{}: equal but for generated names, {} charged", condition.name, response.charged()),
+        0 => say!("{name}: equal but for generated names, {} charged", response.charged()),
         50 => {
-            say!("{}: {}", condition.name, refusal(&response, None));
-            let ours = expander.answer(&Case { operation: archive::operation("expand")?, ..case.clone() });
+            say!("{name}: {}", refusal(&response, None));
+            let ours = expander.answer(&Case { operation: Operation::Expand, ..case.clone() });
             say!("    {}", pair::first_entry_but_names(&ours.result, &case.tapes[2]));
         }
-        _ => say!("{}: {}", condition.name, asked.refused(&mut expander, i, &case, &response)?),
+        _ => {
+            let said = match of_supplied(&mut expander, &case, &response, supplied)? {
+                Some(said) => said,
+                None => asked.refused(&mut expander, i, &case, &response)?,
+            };
+            say!("{name}: {said}");
+        }
     }
     Ok(if response.number() == 0 { Done::Well } else { Done::Refused })
+}
+
+/// Why the tape that is judged is refused, if it is that one: macros and condition are read before it, and `expand` says the same
+/// of them.
+fn of_supplied(
+    expander: &mut Expander,
+    case: &Case,
+    response: &Response,
+    supplied: &String,
+) -> Result<Option<String>, String> {
+    let is_it = match response.number() {
+        2 => expander.answer(&Case { operation: Operation::Expand, ..case.clone() }).number() != 2,
+        3 => matches!(figures::explained(case), Some((Whose::Tape(2), _))),
+        _ => false,
+    };
+    if !is_it {
+        return Ok(None);
+    }
+    let given = Rules::load(std::slice::from_ref(supplied))?;
+    let search = Search::new(&given, expander, case.limit, case.file);
+    let found = if given.conditions.is_empty() { None } else { search.own_refusal(0, case, response) };
+    let said = match found {
+        Some(finding) => mistakes::text(&given, &finding),
+        None => with_figure(case, refusal(response, None)),
+    };
+    let is_pointed = said.starts_with(&format!("{supplied}:"));
+    Ok(Some(if is_pointed { said } else { format!("{supplied}: {said}") }))
 }
 
 /// The first rule of the battery head that each condition breaks. A head gets what its rules are expanded to, so where
@@ -187,35 +232,23 @@ pub fn judge(words: &[String]) -> Result<Done, String> {
 pub fn profile(words: &[String]) -> Result<Done, String> {
     let args = Args::parse(words, &["--limit", "--file", "--rule"], &["--as-is"])?;
     let asked = asked(&args, args.words(1, 2, "profile")?)?;
-    let operation = archive::operation("profile")?;
     let mut expander = Expander::default();
     let expanded = match asked.rules.definitions.is_empty() || args.has("--as-is") {
         true => None,
-        false => Some(asked.answers(&mut expander, "expand")?.0),
+        false => Some(asked.answers(&mut expander, Operation::Expand).0),
     };
     let mut all_fit = true;
     for (at, &i) in asked.chosen.iter().enumerate() {
-        let name = asked.name(i);
-        let tape = match expanded.as_ref().map(|answers| &answers[at]) {
-            Some(Answered { case, response, .. }) if response.number() != 0 => {
-                say!("{name}: {}", asked.refused(&mut expander, i, case, response)?);
-                all_fit = false;
-                continue;
-            }
-            Some(Answered { response, .. }) => reading::with_zeros(&response.result),
-            None => asked.rules.conditions[i].tape.clone(),
+        let why = match expanded.as_ref().map(|answers| &answers[at]) {
+            None => asked.unfit(&mut expander, i, None),
+            Some(Answered { case, response, .. }) => match response.number() {
+                0 => asked.unfit(&mut expander, i, Some(reading::with_zeros(&response.result))),
+                _ => Some(asked.refused(&mut expander, i, case, response)?),
+            },
         };
-        let case = Case::new(operation, 0, vec![tape]);
-        let response = expander.answer(&case);
-        // What was expanded has no places any more.
-        let found = if expanded.is_none() { asked.figure(&mut expander, i, &case) } else { None };
-        match (response.number(), found) {
-            (0, _) => say!("{name}: fit for the battery head"),
-            (_, Some(found)) => say!("{name}: {}", mistakes::text(&asked.rules, &found)),
-            _ => say!("{name}: {}", with_figure(&case, refusal(&response, asked.rules.only_source()))),
-        }
-        all_fit &= response.number() == 0;
+        say!("{}: {}", asked.name(i), why.as_deref().unwrap_or("fit for the battery head"));
+        all_fit &= why.is_none();
     }
-    say_who(&expander, operation);
+    say_who(&expander, Operation::Profile);
     Ok(if all_fit { Done::Well } else { Done::Refused })
 }

@@ -3,25 +3,49 @@
 use super::args::Args;
 use super::counted;
 use crate::nearest::nearest;
-use crate::notation::{self, Mistake, Placed, Reading, Rule};
+use crate::notation::{self, Mistake, Once, Place, Placed, Reading, Rule};
 use crate::reading;
 use crate::source::Source;
 use differential::tape::{self, Node, Sort};
-use std::io::Read;
+use std::collections::BTreeMap;
+use std::fs;
+use std::io::{self, Read};
+use std::sync::Mutex;
 
 pub enum Input {
     Tape(Vec<u8>),
     Text(Source, Box<Reading>),
 }
 
+/// So many bytes of a file are read, in MiB: more than any tape has, and any rules that somebody writes. Some files have no end.
+const MOST_MIB: u64 = 16;
+
 /// What stands in a file, or `-` for standard input.
 pub fn bytes(path: &str) -> Result<Vec<u8>, String> {
+    let bytes = kept(path).map_err(|e| format!("{path}: {e}"))?;
+    let is_long = bytes.len() as u64 > MOST_MIB << 20;
+    if is_long { Err(format!("{path}: more than {MOST_MIB} MiB, which are read at the most")) } else { Ok(bytes) }
+}
+
+/// All bytes, or one more than are read at the most.
+fn all(from: impl Read) -> io::Result<Vec<u8>> {
     let mut bytes = Vec::new();
-    let read = match path {
-        "-" => std::io::stdin().read_to_end(&mut bytes).map(drop),
-        _ => std::fs::read(path).map(|read| bytes = read),
-    };
-    read.map_err(|e| format!("{path}: {e}"))?;
+    from.take((MOST_MIB << 20) + 1).read_to_end(&mut bytes).map(|_| bytes)
+}
+
+/// What can be read only once, such as standard input or a pipe, is kept for the place of a refusal.
+fn kept(path: &str) -> io::Result<Vec<u8>> {
+    static KEPT: Mutex<BTreeMap<String, Vec<u8>>> = Mutex::new(BTreeMap::new());
+    let read = || if path == "-" { all(io::stdin()) } else { fs::File::open(path).and_then(all) };
+    if path != "-" && fs::metadata(path).is_ok_and(|of| of.is_file()) {
+        return read();
+    }
+    let mut kept = KEPT.lock().expect("nobody panics with it");
+    if let Some(bytes) = kept.get(path) {
+        return Ok(bytes.clone());
+    }
+    let bytes = read()?;
+    kept.insert(path.to_string(), bytes.clone());
     Ok(bytes)
 }
 
@@ -31,16 +55,12 @@ pub fn read(path: &str) -> Result<Input, String> {
     if bytes.iter().all(u8::is_ascii_whitespace) {
         return Err(format!("{path}: nothing in it"));
     }
-    if reading::is_tape(&bytes) || bytes.iter().any(is_control) {
+    if reading::is_tape(&bytes) {
         return Ok(Input::Tape(bytes));
     }
-    let text = String::from_utf8(bytes).map_err(|e| {
-        let at = e.utf8_error().valid_up_to();
-        let lines = e.as_bytes()[..at].split(|byte| *byte == b'\n').count();
-        format!("{path}:{lines}: byte {:02X} is no UTF-8, as a text of rules has to be", e.as_bytes()[at])
-    })?;
+    let text = text(path, bytes)?;
     let reading = notation::read(&text);
-    Ok(Input::Text(Source { name: path.to_string(), text }, Box::new(reading)))
+    Ok(Input::Text(Source::new(path, text), Box::new(reading)))
 }
 
 /// A tape, or a text without mistakes.
@@ -62,9 +82,24 @@ fn unreadable(source: &Source, mistakes: &[Mistake]) -> String {
     source.pointed(*start, *end, what) + &meant + &more
 }
 
-/// What no text has, and nearly every tape, whole or cut: a control that is neither a tab nor a line's end.
-fn is_control(byte: &u8) -> bool {
-    byte.is_ascii_control() && !byte.is_ascii_whitespace()
+/// The bytes as a text, or the first of them that no text has.
+fn text(path: &str, bytes: Vec<u8>) -> Result<String, String> {
+    let (text, has_all) = match String::from_utf8(bytes.clone()) {
+        Ok(text) => (text, true),
+        Err(e) => (String::from_utf8_lossy(&bytes[..e.utf8_error().valid_up_to()]).to_string(), false),
+    };
+    let (at, what) = match text.bytes().position(is_control) {
+        Some(at) => (at, "a control, which no text of rules has"),
+        None if has_all => return Ok(text),
+        None => (text.len(), "no UTF-8, as a text of rules has to be"),
+    };
+    let (line, column) = Source::new(path, text).place(at);
+    Err(format!("{path}:{line}:{column}: byte {:02X} is {what}", bytes[at]))
+}
+
+/// A control that is neither a tab nor of a line's end.
+fn is_control(byte: u8) -> bool {
+    byte.is_ascii_control() && !matches!(byte, b'\t' | b'\n' | b'\r')
 }
 
 /// A tape of any root: as it is, or of the one tree that the text stands for.
@@ -74,7 +109,7 @@ pub fn tape(path: &str) -> Result<Vec<u8>, String> {
         Input::Text(_, reading) => {
             let document = reading.document;
             let several = || {
-                let name = |(i, rule)| format!("`{}`", rule_name(i, rule));
+                let name = |(i, rule)| format!("`{}`", notation::visible(&rule_name(i, rule)));
                 let names: Vec<String> = document.rules.iter().enumerate().map(name).collect();
                 let macros = counted(document.definitions.len(), "macro");
                 format!("{path}: {macros} and the rules {}, which are several tapes", names.join(", "))
@@ -121,12 +156,14 @@ pub struct Rules {
     pub mistakes: Vec<(usize, Mistake)>,
     /// The names of macros that could not be read.
     pub unread: Vec<Vec<u8>>,
+    /// What is to stand once in each file, with the number of the file.
+    pub once: Vec<(usize, Once, Place)>,
 }
 
 pub struct Condition {
     pub name: String,
     pub tape: Vec<u8>,
-    /// Its tree with places, if it is one.
+    /// Its tree with places, if it is one, of whatever root.
     pub tree: Option<Placed>,
     /// The number of its file.
     pub file: usize,
@@ -161,12 +198,18 @@ impl Rules {
         let [first, rest @ ..] = paths else { return Err("no file".to_string()) };
         let mut rules = Rules::of_one(read(first)?, first);
         if let [second] = rest {
+            // Without the macros that it was to have, what the second file has would be judged wrongly.
+            let unread = rules.conditions.iter().find(|condition| condition.tree.is_none());
+            if let Some(why) = unread.and_then(|unread| reading::tree(&unread.tape, Sort::Any).err()) {
+                return Err(format!("{first}: no tree: {why}"));
+            }
             let more = Rules::of_one(read(second)?, second);
             if !more.definitions.is_empty() {
                 return Err(format!("{second}: the second file is for conditions alone"));
             }
             rules.files.extend(more.files);
             rules.mistakes.extend(more.mistakes.into_iter().map(|(_, mistake)| (1, mistake)));
+            rules.once.extend(more.once.into_iter().map(|(_, once, place)| (1, once, place)));
             rules.conditions.extend(more.conditions.into_iter().map(|condition| Condition { file: 1, ..condition }));
             (rules.limit, rules.file) = (more.limit.or(rules.limit), more.file.or(rules.file));
         }
@@ -216,13 +259,14 @@ impl Rules {
             spans_counted: false,
             mistakes: vec![],
             unread: vec![],
+            once: vec![],
         }
     }
 
     /// Macros and conditions of a text.
     #[cfg(test)]
     pub fn of_text(name: &str, text: &str) -> Rules {
-        let source = Source { name: name.to_string(), text: text.to_string() };
+        let source = Source::new(name, text.to_string());
         Rules::of_one(Input::Text(source, Box::new(notation::read(text))), name)
     }
 
@@ -233,9 +277,12 @@ impl Rules {
         };
         let Reading { document, mistakes, unread } = *reading;
         let none = Rules {
+            limit: document.limit,
+            file: document.file,
             spans_counted: document.spans_counted,
             mistakes: mistakes.into_iter().map(|mistake| (0, mistake)).collect(),
             unread,
+            once: document.placed.once.into_iter().map(|(once, place)| (0, once, place)).collect(),
             ..Rules::empty(File::Text(source))
         };
         if let Some(root) = document.placed.root {
@@ -249,8 +296,7 @@ impl Rules {
             is_text: true,
         };
         let conditions = document.rules.iter().enumerate().zip(document.placed.rules).map(condition).collect();
-        let limits = (document.limit, document.file);
-        Rules { conditions, limit: limits.0, file: limits.1, ..none }.with_macros(document.placed.definitions)
+        Rules { conditions, ..none }.with_macros(document.placed.definitions)
     }
 
     /// A registry's tape, a definition's, or a condition's. One that is none is taken as a condition's, and refused as
@@ -278,7 +324,6 @@ impl Rules {
     }
 
     fn with_condition(self, tape: Vec<u8>, tree: Option<Placed>, path: &str) -> Rules {
-        let tree = tree.filter(|tree| tape::codes(Sort::Condition).contains(&tree.code));
         let name = path.to_string();
         Rules { conditions: vec![Condition { name, tape, tree, file: 0, is_text: false }], ..self }
     }

@@ -14,13 +14,14 @@ pub use args::Args;
 pub use show::{entries, result_text, result_tree};
 
 use crate::archive::{self, Expander, Who};
-use crate::figures::{self, Whose};
-use crate::numbers;
+use crate::figures;
 use crate::output;
 use crate::response::Response;
 use crate::source::Source;
+use crate::whole::Whole;
 use differential::case::{Case, Operation};
 use std::io::IsTerminal;
+use std::path::Path;
 
 /// How a command ended: its exit status.
 #[derive(Clone, Copy, Debug, PartialEq, Eq)]
@@ -86,11 +87,7 @@ fn say_who(expander: &Expander, operation: Operation) {
 /// A refusal: its place in the text where it has one, its number, and its message or what the number means.
 fn refusal(response: &Response, source: Option<&Source>) -> String {
     let (start, end) = response.span();
-    let message = match &response.message[..] {
-        [] => numbers::meaning(response.number()).to_string(),
-        message => String::from_utf8_lossy(message).to_string(),
-    };
-    let what = format!("refused with {}: {message}", response.number());
+    let what = format!("refused with {}: {}", response.number(), response.said());
     match source {
         Some(source) if end > 0 => source.pointed(start as usize, end as usize, &what),
         _ if end > 0 || start > 0 => format!("{what} (at {start}..{end})"),
@@ -101,17 +98,16 @@ fn refusal(response: &Response, source: Option<&Source>) -> String {
 /// A refusal with the figure that is passed, if it is 3.
 fn with_figure(case: &Case, said: String) -> String {
     let Some((whose, passed)) = figures::explained(case) else { return said };
-    let entry = match whose {
-        Whose::Tape(_) => format!(", passed with entry {}", passed.entry + 1),
-        _ => String::new(),
-    };
+    let entry = passed.entry.map_or(String::new(), |entry| format!(", passed with entry {}", entry + 1));
     format!("{said}: {}{entry}", mistakes::large(whose, &passed))
 }
 
-/// Writes a tape to a file, or to standard output if that is no terminal.
+/// Writes a tape to a file, or without one, as with `-`, to standard output if that is no terminal.
 fn write_out(path: Option<&str>, bytes: &[u8]) -> Result<Done, String> {
-    match path {
-        Some(path) => std::fs::write(path, bytes).map_err(|e| format!("{path}: {e}"))?,
+    match path.filter(|path| *path != "-") {
+        Some(path) => {
+            Whole::open(Path::new(path)).and_then(|file| file.write(bytes)).map_err(|e| format!("{path}: {e}"))?
+        }
         None if std::io::stdout().is_terminal() => return Err("a tape is no text: -o FILE, or a pipe".to_string()),
         None => output::bytes(bytes),
     }

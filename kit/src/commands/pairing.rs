@@ -3,15 +3,21 @@
 use super::Done;
 use super::args::Args;
 use crate::corpus;
-use crate::pair::{self, Plan, Shape, Went};
+use crate::interrupt;
+use crate::pair::{self, Plan, Shape, Status, Went};
 use crate::second::{FAULTS, Fault, Second};
 use crate::serve::{self, Ours};
+use crate::whole::Whole;
 use differential::case::{OPERATIONS, Operation};
 use std::io::IsTerminal;
+use std::path::Path;
 use std::time::Duration;
 
 /// Without a word of the user's, so many cases of seed 1.
 const CASES: u64 = 100_000;
+
+/// In less no head answers.
+const SHORTEST_TIMEOUT: Duration = Duration::from_millis(1);
 
 /// More jobs than these are a mistake.
 const MOST_JOBS: usize = 256;
@@ -20,57 +26,64 @@ pub fn pair(words: &[String]) -> Result<Done, String> {
     let with_value =
         ["--cases", "--seed", "--from", "--corpus", "--only", "--timeout", "--found", "--jobs", "--format", "--report"];
     let args = Args::parse(words, &with_value, &["--as-found", "--quiet", "--keep-going"])?;
-    let [a, b] = args.words(2, 2, "pair")? else { unreachable!("two words") };
+    let [a, b] = args.all("pair")?;
     let names = [a.clone(), b.clone()];
     let format = Format::named(args.value("--format").unwrap_or("text"))?;
     let plan = plan(&args, [command(a)?, command(b)?])?;
     // It has to be known before the night that the report can be written.
-    args.value("--report").map(|path| written(path, "")).transpose()?;
-    let went = pair::pair(&plan)?;
-    match &went {
-        Err((i, failure, complaints)) if failure.is_missing() => {
-            let said = complaints.text();
-            return Err(format!("{}, `{}`, cannot be started: {said}", ["A", "B"][*i], names[*i]));
-        }
-        Ok(pairing) if pairing.compared() == 0 => {
-            return Err(format!("no case was compared; {} were left out as not for both", pairing.left_out));
-        }
-        _ => {}
-    }
+    let open = |path: &str| Whole::open(Path::new(path)).map_err(|e| format!("{path}: {e}"));
+    let file = args.value("--report").map(|path| Ok::<_, String>((path, open(path)?))).transpose()?;
+    interrupt::watch();
+    let went = pair::pair(&plan);
+    let trouble = pair::trouble(&went, &names);
     let report = format.report(&went, &names);
-    match args.value("--report") {
+    match file {
+        Some((path, file)) => put(path, file, &report, &in_a_line(&went, &names))?,
+        // As a text it is what standard error is told.
+        None if went.is_err() && trouble.is_some() && format == Format::Text => {}
         None => say!("{}", report.trim_end()),
-        Some(path) => {
-            written(path, &report)?;
-            say!("{}; the report is in {path}", in_a_line(&went, &names));
-        }
     }
-    Ok(if pair::is_equal(&went) { Done::Well } else { Done::Refused })
+    match (pair::status(&went), trouble) {
+        (_, Some(why)) => Err(why),
+        (Status::Equal, None) => Ok(Done::Well),
+        (_, None) => Ok(Done::Refused),
+    }
+}
+
+/// Writes a report and says so. One that cannot be written goes to standard output: a night is more than its file.
+fn put(path: &str, file: Whole, report: &str, in_a_line: &str) -> Result<(), String> {
+    let written = file.write(report.as_bytes()).map_err(|e| format!("{path}: {e}"));
+    match written {
+        Ok(()) => say!("{in_a_line}; the report is in {path}"),
+        Err(_) => say!("{}", report.trim_end()),
+    }
+    written
 }
 
 fn plan(args: &Args, commands: [String; 2]) -> Result<Plan, String> {
-    let corpora: Vec<String> = args.value("--corpus").map(str::to_string).into_iter().collect();
+    let corpora: Vec<String> = args.values("--corpus").map(str::to_string).collect();
     let cases = args.number("--cases")?.unwrap_or(if corpora.is_empty() { CASES } else { 0 });
     let jobs = args.number("--jobs")?.unwrap_or(1);
     if !(1..=MOST_JOBS).contains(&jobs) {
         return Err(format!("--jobs: from 1 to {MOST_JOBS}, not {jobs}"));
     }
+    let plan = Plan::new(commands, args.number("--seed")?.unwrap_or(1), cases);
     Ok(Plan {
         corpora,
         from: args.number("--from")?.unwrap_or(0),
-        timeout: timeout(args.number("--timeout")?.unwrap_or(10.0))?,
+        timeout: args.value("--timeout").map(timeout).transpose()?.unwrap_or(plan.timeout),
         only: args.value("--only").map(operations).transpose()?,
         shrinks: !args.has("--as-found"),
         quiet: args.has("--quiet"),
         keep_going: args.has("--keep-going"),
         jobs,
         found: args.value("--found").map(str::to_string),
-        ..Plan::new(commands, args.number("--seed")?.unwrap_or(1), cases)
+        ..plan
     })
 }
 
 /// How a report is written.
-#[derive(Clone, Copy)]
+#[derive(Clone, Copy, PartialEq, Eq)]
 enum Format {
     Text,
     Json,
@@ -96,40 +109,38 @@ impl Format {
     }
 }
 
-fn written(path: &str, text: &str) -> Result<(), String> {
-    std::fs::write(path, text).map_err(|e| format!("{path}: {e}"))
-}
-
 /// How it went, and how long it took.
 fn in_a_line(went: &Went, names: &[String; 2]) -> String {
     match went {
-        Err(no_hello) => pair::of_no_hello(no_hello, names),
+        Err(_) if pair::status(went) == Status::Trouble => "no case was compared".to_string(),
+        Err(_) => pair::text(went, names),
         Ok(pairing) => {
             let rate = pairing.ran as f64 / pairing.time.as_secs_f64().max(0.001);
             let took = format!("{}, {} a second", pair::clock(pairing.time), pair::grouped(rate as u64));
-            format!("{} ({took})", pair::summary(pairing))
+            let ended = pairing.ended.as_ref().map_or(String::new(), |why| format!("; ended before its cases: {why}"));
+            format!("{} ({took}){ended}", pair::summary(pairing))
         }
     }
 }
 
-fn timeout(seconds: f32) -> Result<Duration, String> {
-    let is_above = seconds > 0.0;
-    let duration = Duration::try_from_secs_f32(seconds).ok().filter(|_| is_above);
-    duration.ok_or_else(|| format!("--timeout: {seconds} are no seconds to wait"))
+/// A number of seconds, which may be a fraction.
+fn timeout(seconds: &str) -> Result<Duration, String> {
+    let duration = seconds.parse().ok().and_then(|seconds| Duration::try_from_secs_f64(seconds).ok());
+    let wrong = || format!("--timeout: `{seconds}` are no seconds to wait, such as 10 or 0.5; 0.001 are the least");
+    duration.filter(|duration| *duration >= SHORTEST_TIMEOUT).ok_or_else(wrong)
 }
 
 /// Operations by their names, each one that there is.
-fn operations(names: &str) -> Result<Vec<String>, String> {
-    let known: Vec<&str> = OPERATIONS.into_iter().map(Operation::name).collect();
-    match names.split(',').find(|name| !known.contains(name)) {
-        Some(unknown) => Err(format!("--only: no operation `{unknown}`; there are {}", known.join(", "))),
-        None => Ok(names.split(',').map(str::to_string).collect()),
-    }
+fn operations(names: &str) -> Result<Vec<Operation>, String> {
+    let unknown = |name: &str| {
+        let known = OPERATIONS.map(Operation::name).join(", ");
+        format!("--only: no operation `{name}`; there are {known}")
+    };
+    names.split(',').map(|name| Operation::named(name).ok_or_else(|| unknown(name))).collect()
 }
 
 /// A command as the shell reads it; the kit's own heads are the kit itself.
 fn command(word: &str) -> Result<String, String> {
-    let own = || std::env::current_exe().map_err(|e| e.to_string()).map(|path| format!("'{}'", path.display()));
     Ok(match word.split_once(':') {
         None if word == "ours" => format!("{} serve", own()?),
         None if word == "model" => format!("{} serve --model", own()?),
@@ -143,9 +154,24 @@ fn command(word: &str) -> Result<String, String> {
     })
 }
 
+/// The kit as a word for the shell: the file that runs, even where a build has put another in its place since.
+fn own() -> Result<String, String> {
+    let running = format!("/proc/{}/exe", std::process::id());
+    if Path::new(&running).exists() {
+        return Ok(running);
+    }
+    let path = std::env::current_exe().map_err(|e| e.to_string())?;
+    path.to_str().map(quoted).ok_or_else(|| format!("{} is no UTF-8, as a command has to be", path.display()))
+}
+
+/// A text as one word for the shell.
+fn quoted(text: &str) -> String {
+    format!("'{}'", text.replace('\'', r"'\''"))
+}
+
 pub fn serve(words: &[String]) -> Result<Done, String> {
     let args = Args::parse(words, &[], &["--model"])?;
-    args.words(0, 0, "serve")?;
+    let [] = args.all("serve")?;
     if std::io::stdin().is_terminal() {
         return Err(
             "serve answers requests on standard input, as docs/SUPPLIER.md describes them: for `pair`".to_string()
@@ -166,7 +192,7 @@ pub fn wrong(words: &[String]) -> Result<Done, String> {
         FAULTS.iter().for_each(|(name, _, what)| say!("{name:25} {what}"));
         return Ok(Done::Well);
     }
-    let [name] = args.words(1, 1, "wrong")? else { unreachable!("one word") };
+    let [name] = args.all("wrong")?;
     serve::serve(&mut Second { fault: fault(name)? }, std::io::stdin().lock(), std::io::stdout().lock())?;
     Ok(Done::Well)
 }
@@ -185,8 +211,9 @@ fn table(args: &Args) -> Result<Done, String> {
     for (name, _, what) in FAULTS.iter().filter(|(name, ..)| only.as_ref().is_none_or(|only| only.contains(name))) {
         let commands = [command("ours")?, command(&format!("wrong:{name}"))?];
         let plan = Plan { quiet: true, ..Plan::new(commands, seed, cases) };
-        let found =
-            pair::pair(&plan)?.ok().and_then(|pairing| Some((pairing.ran, pairing.causes.into_iter().next()?.found)));
+        let went = pair::pair(&plan);
+        pair::trouble(&went, &plan.commands).map_or(Ok(()), Err)?;
+        let found = went.ok().and_then(|pairing| Some((pairing.ran, pairing.causes.into_iter().next()?.found)));
         all_found &= found.is_some();
         let row = found.map_or("not found | | ".to_string(), |(ran, found)| {
             let shape = &found.smallest.shape;
@@ -208,11 +235,10 @@ const CORPUS_CASES: u64 = 400_000;
 
 pub fn corpus(words: &[String]) -> Result<Done, String> {
     let args = Args::parse(words, &["--seed", "--cases"], &[])?;
-    let [folder] = args.words(1, 1, "corpus")? else { unreachable!("one word") };
+    let [folder] = args.all("corpus")?;
     differential::upstream::quiet_panics();
     let (seed, cases) = (args.number("--seed")?.unwrap_or(1), args.number("--cases")?.unwrap_or(CORPUS_CASES));
-    // Who waits in front of a terminal sees how long; a pipe gets nothing but the last line.
-    let mut progress = pair::Progress::new(cases, !std::io::stderr().is_terminal());
+    let mut progress = pair::Progress::new(cases, false);
     let made = corpus::make(seed, cases, &mut |done| progress.show(done));
     progress.end();
     let made = made?;
@@ -221,4 +247,27 @@ pub fn corpus(words: &[String]) -> Result<Done, String> {
     let cases = pair::grouped(made.cases as u64);
     say!("{cases} cases, {} bytes of requests and responses in {folder}", pair::grouped(bytes));
     Ok(Done::Well)
+}
+
+#[cfg(test)]
+mod tests {
+    use super::*;
+    use std::process::Command;
+
+    #[test]
+    fn a_head_has_at_least_a_millisecond() {
+        assert_eq!(timeout("0.5"), Ok(Duration::from_millis(500)));
+        assert_eq!(timeout("1e-3"), Ok(SHORTEST_TIMEOUT));
+        for wrong in ["1,5", "1_0", "1e-12", "0.0009", "0", "-1", "nan", "inf", "1e300", ""] {
+            assert!(timeout(wrong).is_err_and(|why| why.starts_with(&format!("--timeout: `{wrong}` "))), "{wrong}");
+        }
+    }
+
+    #[test]
+    fn the_shell_reads_a_quoted_text_as_it_is() {
+        for text in ["/it's/kit", "'", "a b", "$HOME `x` \"\\", "ü"] {
+            let printed = Command::new("sh").args(["-c", &format!("printf %s {}", quoted(text))]).output();
+            assert_eq!(String::from_utf8(printed.expect("sh runs").stdout).as_deref(), Ok(text));
+        }
+    }
 }

@@ -4,12 +4,12 @@ use super::args::Args;
 use super::input;
 use super::{Done, write_out};
 use crate::notation::{self, Spans};
-use crate::reading::{self, Sections};
-use differential::tape::{self, Node, Sort, Value};
+use crate::reading::{self, Entry, Sections};
+use differential::tape::{Node, Sort};
 
 pub fn show(words: &[String]) -> Result<Done, String> {
     let args = Args::parse(words, &["--rule"], &["--plain", "--entries", "--macros"])?;
-    let [path] = args.words(1, 1, "show")? else { unreachable!("one word") };
+    let [path] = args.all("show")?;
     let bytes = input::chosen(&args, path)?;
     if args.has("--entries") {
         let sections = reading::sections(&bytes).map_err(|why| format!("{path}: {why}"))?;
@@ -31,29 +31,14 @@ pub fn show(words: &[String]) -> Result<Done, String> {
 }
 
 /// One line for each entry: its place, code, and span, text or value.
-pub fn entries(s: Sections) -> String {
-    let mut text = 0;
-    let line = |i: usize| {
-        let (code, value) = (s.codes[i], s.value(i));
-        let shown = match tape::value(code) {
-            Value::Span => format!("{}..{}", tape::span_start(value), tape::span_end(value)),
-            Value::TextLength => {
-                let end = text + usize::try_from(value).unwrap_or(usize::MAX).min(s.text.len() - text);
-                let shown = notation::quoted(&s.text[text..end], '"');
-                text = end;
-                shown
-            }
-            Value::Any => (value as i64).to_string(),
-            _ => value.to_string(),
-        };
-        format!("{:5}  {code:2}  {shown}\n", i + 1)
-    };
-    (0..s.codes.len()).map(line).collect()
+pub fn entries(sections: Sections) -> String {
+    let line = |(i, entry): (usize, Entry)| format!("{:5}  {:2}  {}\n", i + 1, entry.code, entry.shown());
+    sections.entries().enumerate().map(line).collect()
 }
 
 pub fn tape(words: &[String]) -> Result<Done, String> {
     let args = Args::parse(words, &["-o", "--rule"], &["--macros"])?;
-    let [path] = args.words(1, 1, "tape")? else { unreachable!("one word") };
+    let [path] = args.all("tape")?;
     write_out(args.value("-o"), &input::chosen(&args, path)?)
 }
 

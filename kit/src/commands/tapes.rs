@@ -4,7 +4,7 @@ use super::args::Args;
 use super::input::{self, Rules};
 use super::mistakes::{self, Finding, Search};
 use super::{Done, refusal, say_who, with_figure, write_out};
-use crate::archive::{self, Expander};
+use crate::archive::Expander;
 use crate::figures::{self, Whose};
 use crate::notation::{self, Spans};
 use crate::reading;
@@ -26,37 +26,34 @@ fn made(expander: &Expander, operation: Operation, response: &Response, out: Opt
 
 pub fn older(words: &[String]) -> Result<Done, String> {
     let args = Args::parse(words, &["-o", "--rule"], &["--macros"])?;
-    let [path] = args.words(1, 1, "older")? else { unreachable!("one word") };
-    let (operation, mut expander) = (archive::operation("older")?, Expander::default());
+    let [path] = args.all("older")?;
+    let (operation, mut expander) = (Operation::Older, Expander::default());
     let case = Case::new(operation, 0, vec![input::chosen(&args, path)?]);
     let response = expander.answer(&case);
     if response.number() == 0 {
         return made(&expander, operation, &response, args.value("-o"));
     }
     say_who(&expander, operation);
-    // Standard input cannot be read again to find the place.
-    let Some(rules) = Rules::load(std::slice::from_ref(path)).ok().filter(|_| path != "-") else {
-        say!("{path}: {}", with_figure(&case, refusal(&response, None)));
-        return Ok(Done::Refused);
-    };
+    let rules = Rules::load(std::slice::from_ref(path))?;
     let rule = match args.value("--rule") {
         Some(name) => Some(rules.named(name)?),
         None => Some(0).filter(|_| rules.definitions.is_empty() && !args.has("--macros")),
     };
     let mut search = Search::new(&rules, &mut expander, 0, 0);
-    let found = match rule {
-        Some(i) => search.figures_of_rule(i).into_iter().find(|finding| finding.number == Some(response.number())),
-        None => search.registry_refusal(response.number())?,
+    let found = match (response.number(), rule) {
+        (52, _) => search.weeks(rule),
+        (_, Some(i)) => search.own_refusal(i, &case, &response),
+        (number, None) => search.registry_refusal(number)?,
     };
     Ok(refused(&case, &response, path, &rules, found))
 }
 
 pub fn merge(words: &[String]) -> Result<Done, String> {
     let args = Args::parse(words, &["-o"], &[])?;
-    let paths = args.words(2, 2, "merge")?;
+    let paths: &[String; 2] = args.all("merge")?;
     let load = |path: &String| Rules::load(std::slice::from_ref(path));
     let (first, second) = (load(&paths[0])?, load(&paths[1])?);
-    let (operation, mut expander) = (archive::operation("merge")?, Expander::default());
+    let (operation, mut expander) = (Operation::Merge, Expander::default());
     let tapes = vec![first.for_macros(), second.for_macros()];
     let case = Case::new(operation, 0, tapes.clone());
     let response = expander.answer(&case);
@@ -65,14 +62,16 @@ pub fn merge(words: &[String]) -> Result<Done, String> {
     }
     say_who(&expander, operation);
     // A refusal of the first comes before any other, and is the one that it has alone.
-    let alone = Case::new(archive::operation("registry")?, 0, tapes[..1].to_vec());
+    let alone = Case::new(Operation::Registry, 0, tapes[..1].to_vec());
     let is_first = expander.answer(&alone).number() != 0;
     let is_joined = matches!(figures::explained(&case), Some((Whose::Merged, _)));
     let (path, rules) = if is_first { (&paths[0], &first) } else { (&paths[1], &second) };
+    let mut search = Search::new(rules, &mut expander, 0, 0);
     let found = match is_joined {
         true => mistakes::joined(&first, &second),
-        false => Search::new(rules, &mut expander, 0, 0).registry_refusal(response.number())?,
+        false => search.registry_refusal(response.number())?,
     };
+    let found = found.or_else(|| search.unreadable_tape(0, &case, &response));
     Ok(refused(&case, &response, path, rules, found))
 }
 

@@ -1,8 +1,9 @@
 //! The corpus as JSON: a file for each operation, and the schema that describes them.
 
 use super::{Entry, flags, tape_names};
+use crate::hex;
 use crate::json::Value;
-use differential::case::{Counts, OPERATIONS, Operation};
+use differential::case::{self, OPERATIONS, Operation};
 use differential::compare::Witness;
 
 /// Written by hand; the files are tested against it.
@@ -55,8 +56,8 @@ fn input(entry: &Entry) -> Value {
         ("file", u32::from(case.file).into()),
         ("index", case.index.into()),
         ("sizes", Value::Object(sizes)),
-        ("counts", counts(&case.counts).into()),
-        ("tapes", case.tapes.iter().map(|tape| hex(tape)).collect()),
+        ("counts", hex::of(&case::used_bytes(&case.counts)).into()),
+        ("tapes", case.tapes.iter().map(|tape| hex::of(tape)).collect()),
     ])
 }
 
@@ -66,11 +67,11 @@ fn answer(entry: &Entry) -> Value {
     const WORDS: [&str; 7] = ["number", "start", "end", "message_length", "charged", "result_entries", "result_text"];
     let words = WORDS.into_iter().zip(response.words.map(Value::from));
     let buffers = [
-        ("result", hex(&response.result)),
+        ("result", hex::of(&response.result)),
         // No operation leaves anything in it.
-        ("work", hex(&[])),
-        ("message", hex(&response.message)),
-        ("counts", counts(&response.counts)),
+        ("work", hex::of(&[])),
+        ("message", hex::of(&response.message)),
+        ("counts", hex::of(&case::used_bytes(&response.counts))),
     ];
     Value::Object(words.chain(buffers.map(|(name, hex)| (name, hex.into()))).collect())
 }
@@ -84,14 +85,4 @@ fn witness(witness: Witness) -> &'static str {
         Witness::UpstreamHalted => "upstream-halted",
         Witness::UpstreamSubstituted => "upstream-substituted",
     }
-}
-
-/// Four bytes for each, up to the last that is not 0.
-fn counts(counts: &Counts) -> String {
-    let last = counts.iter().rposition(|count| *count != 0).map_or(0, |last| last + 1);
-    hex(&counts[..last].iter().flat_map(|count| count.to_le_bytes()).collect::<Vec<u8>>())
-}
-
-fn hex(bytes: &[u8]) -> String {
-    bytes.iter().map(|byte| format!("{byte:02x}")).collect()
 }

@@ -1,6 +1,7 @@
 //! Conditions and terms. Both are read by one grammar, since only what follows tells `?x` the condition from `?x` the
 //! term; each operator then says what its sides have to be.
 
+use super::bounds::MOST_REPEATS;
 use super::lex::{Kind, Mistake};
 use super::names;
 use super::parser::{Parser, is_word};
@@ -131,6 +132,7 @@ impl Parser {
         self.deeper(|p| {
             let mut left = p.prefixed()?;
             while let Some((operator, binds)) = p.operator().filter(|(_, binds)| *binds >= level) {
+                p.one_deeper()?;
                 p.at += 1;
                 left = p.joined(left, operator, binds)?;
             }
@@ -232,6 +234,7 @@ impl Parser {
         let mut parsed = self.alone()?;
         loop {
             if self.is_symbol("{") {
+                self.one_deeper()?;
                 let base = parsed.into_condition()?;
                 let fields = self.fields()?;
                 let place = self.spanned(42, start, vec![]);
@@ -301,12 +304,16 @@ impl Parser {
     fn array(&mut self) -> Result<Placed, Mistake> {
         let start = self.start();
         self.expect("[", "")?;
-        let items = self.list("]", |p| {
+        let mut items = Vec::new();
+        self.list("]", |p| {
             let item = p.term()?;
-            let count = if p.symbol(";") { p.number("how often the item stands there", 4096)? } else { 1 };
-            Ok(vec![item; count as usize])
+            let often = "how often the item stands there";
+            let count = if p.symbol(";") { p.number(often, MOST_REPEATS as u64)? as usize } else { 1 };
+            p.count_repeated(&item, count)?;
+            items.extend(std::iter::repeat_n(item, count));
+            Ok(())
         })?;
-        Ok(Placed::counted(29, 1, self.place_from(start), items.concat()))
+        Ok(Placed::counted(29, 1, self.place_from(start), items))
     }
 
     fn keyword(&mut self, word: &[u8]) -> Result<What, Mistake> {
@@ -346,8 +353,7 @@ impl Parser {
             path.push(self.texted(40, word));
         }
         while self.symbol(".") {
-            let Kind::Name(text, _) = self.peek().clone() else { return self.expected("a field's name behind `.`") };
-            self.at += 1;
+            let text = self.any_name("a field's name behind `.`")?;
             path.push(self.texted(40, &text));
         }
         Ok(Placed::counted(if word == b"context" { 25 } else { 26 }, 1, self.place_from(start), path))
@@ -415,13 +421,6 @@ impl Parser {
         let namespace = Placed::counted(41, 1, Place::new(start, action.place.end), namespace);
         let parts = vec![place, namespace, action, kind, fields];
         Ok(What::Condition(self.spanned(7, start, parts)))
-    }
-
-    /// A name where no keyword is read, so that each may stand there plain.
-    fn any_name(&mut self, what: &str) -> Result<Vec<u8>, Mistake> {
-        let Kind::Name(text, _) = self.peek().clone() else { return self.expected(what) };
-        self.at += 1;
-        Ok(text)
     }
 
     /// `{f: 1, input.user: x}`

@@ -2,8 +2,9 @@
 
 use super::lex::{self, Kind, Mistake};
 use super::meant;
+use super::names;
 use super::parser::{Parser, is_word};
-use super::placed::Placed;
+use super::placed::{Place, Placed};
 use differential::tape::Node;
 
 /// A condition of a file, with its name if it has one.
@@ -11,6 +12,14 @@ use differential::tape::Node;
 pub struct Rule {
     pub name: Option<String>,
     pub condition: Node,
+}
+
+/// What is to stand once: the rule of a name, the limit, the file number.
+#[derive(Clone, Debug, PartialEq, Eq, PartialOrd, Ord)]
+pub enum Once {
+    Rule(String),
+    Limit,
+    File,
 }
 
 #[derive(Clone, Debug, Default, PartialEq, Eq)]
@@ -32,6 +41,8 @@ pub struct PlacedItems {
     pub definitions: Vec<Placed>,
     pub rules: Vec<Placed>,
     pub root: Option<Placed>,
+    /// What is to stand once, as often as it stands there.
+    pub once: Vec<(Once, Place)>,
 }
 
 /// What could be read of a text, and every mistake that kept the rest from it, in the text's order.
@@ -75,14 +86,18 @@ pub fn read(text: &str) -> Reading {
     let mut parser = Parser::new(tokens);
     let mut reading = Reading { mistakes, ..Reading::default() };
     while *parser.peek() != Kind::End {
-        let began = parser.at;
+        parser.begin_item();
         if let Err(mistake) = parser.item(&mut reading.document) {
-            // What is a bad token has been told.
-            if *parser.peek() != Kind::Bad {
+            let (is_full, start) = (parser.size().over().is_some(), mistake.start);
+            if is_full || !parser.is_told(&mistake) {
                 reading.mistakes.push(meant::with_guess(mistake, &parser.tokens));
             }
-            reading.give_up(&parser, began);
-            parser.recover(began);
+            reading.give_up(&parser);
+            if is_full {
+                reading.mistakes.retain(|other| other.start <= start);
+                break;
+            }
+            parser.recover();
         }
         while parser.symbol(";") {}
     }
@@ -91,11 +106,33 @@ pub fn read(text: &str) -> Reading {
     reading
 }
 
+/// The brackets that are open, each inside the one before.
+#[derive(Default)]
+struct Brackets(Vec<&'static str>);
+
+impl Brackets {
+    fn pass(&mut self, kind: &Kind) {
+        let closed = match *kind {
+            Kind::Symbol(open @ ("(" | "[" | "{")) => return self.0.push(open),
+            Kind::Symbol(")") => "(",
+            Kind::Symbol("]") => "[",
+            Kind::Symbol("}") => "{",
+            _ => return,
+        };
+        // What was opened behind it lacks its end.
+        while self.0.pop().is_some_and(|open| open != closed) {}
+    }
+
+    fn are_of_array(&self) -> bool {
+        self.0.last() == Some(&"[")
+    }
+}
+
 impl Reading {
     /// Nothing more is made of an item with a mistake. One that cannot even begin is the rest of the one before it, unless
     /// it stands at the margin.
-    fn give_up(&mut self, parser: &Parser, began: usize) {
-        let is_rest = parser.at <= began + 1 && parser.tokens[began].indent != Some(0);
+    fn give_up(&mut self, parser: &Parser) {
+        let is_rest = parser.at <= parser.began + 1 && parser.tokens[parser.began].indent != Some(0);
         let Document { definitions, rules, placed, .. } = &mut self.document;
         let start = |trees: &[Placed]| trees.last().map(|tree| tree.place.start);
         if is_rest && start(&placed.rules) > start(&placed.definitions) {
@@ -105,13 +142,15 @@ impl Reading {
             placed.definitions.pop();
             self.unread.extend(definitions.pop().map(|definition| definition.children[0].text.clone()));
         } else {
-            self.unread.extend(parser.broken_name(began));
+            self.unread.extend(parser.broken_name());
         }
     }
 }
 
 impl Parser {
     fn item(&mut self, document: &mut Document) -> Result<(), Mistake> {
+        let before = self.size();
+        document.placed.once.extend(self.once());
         let has_number = matches!(self.peek_at(1), Kind::Number(_));
         if has_number && self.word("limit") {
             document.limit = Some(self.number("the limit", u64::from(u32::MAX))? as u32);
@@ -120,67 +159,112 @@ impl Parser {
         } else if has_number && self.word("spans") {
             self.written_default = Some(self.span()?);
         } else if self.is_word("root") && matches!(self.peek_at(1), Kind::Name(_, false)) {
-            let root = self.root()?;
+            let root = self.lone_root(document)?;
+            self.count(before, &root, 0)?;
             document.root = Some(root.node());
             document.placed.root = Some(root);
-        } else if self.is_definition() {
+        } else if self.is_definition(self.at) {
             let definition = self.definition()?;
+            self.count(before, &definition, 1)?;
             document.definitions.push(definition.node());
             document.placed.definitions.push(definition);
         } else {
             let (name, condition) = self.rule()?;
+            self.count(before, &condition, 0)?;
             document.rules.push(Rule { name, condition: condition.node() });
             document.placed.rules.push(condition);
         }
         Ok(())
     }
 
-    /// Whether an item begins here that has a word or a head of its own.
-    fn has_head(&self) -> bool {
-        let has_number = matches!(self.peek_at(1), Kind::Number(_));
-        let is_setting = has_number && ["limit", "file", "spans"].iter().any(|word| self.is_word(word));
-        let is_root = self.is_word("root") && matches!(self.peek_at(1), Kind::Name(_, false));
-        is_setting || is_root || self.has_rule_head() || self.is_definition()
+    /// What begins here that is to stand once, and where it says which.
+    fn once(&self) -> Option<(Once, Place)> {
+        let (once, first) = match self.peek_at(1) {
+            Kind::Number(_) if self.is_word("limit") => (Once::Limit, self.at),
+            Kind::Number(_) if self.is_word("file") => (Once::File, self.at),
+            Kind::Name(name, _) | Kind::Text(name) if self.has_rule_head(self.at) => {
+                (Once::Rule(String::from_utf8_lossy(name).to_string()), self.at + 1)
+            }
+            _ => return None,
+        };
+        Some((once, Place::new(self.tokens[first].start, self.tokens[self.at + 1].end)))
     }
 
-    /// Whether an item begins at the margin here, where nothing goes on that way.
-    pub fn begins_at_margin(&self) -> bool {
-        self.tokens[self.at].indent == Some(0) && self.has_head()
+    /// Whether an item begins at a place that has a word or a head of its own.
+    pub fn has_head(&self, at: usize) -> bool {
+        let has_number = matches!(self.kind(at + 1), Kind::Number(_));
+        let is_setting = has_number && ["limit", "file", "spans"].iter().any(|word| is_word(self.kind(at), word));
+        let is_root = is_word(self.kind(at), "root") && matches!(self.kind(at + 1), Kind::Name(_, false));
+        is_setting || is_root || self.begins_rule(at) || self.is_definition(at)
+    }
+
+    /// Whether a mistake was told with a bad token: it is that token itself, or ends before it where what was meant by it
+    /// could make something else of it. Nothing at the margin is taken for that.
+    fn is_told(&self, mistake: &Mistake) -> bool {
+        let token = &self.tokens[self.at];
+        let goes_on = mistake.end == self.end() && token.indent != Some(0);
+        token.kind == Kind::Bad && (mistake.start == token.start || goes_on)
     }
 
     /// On to where the next item seems to begin: with a head at the margin, anywhere behind the item's own beginning; or
     /// behind the mistake with a head on a line of its own, with `rule NAME:`, behind `;`, or at the margin with a name and
-    /// a parenthesis, as a definition does whose head is wrong too.
-    fn recover(&mut self, began: usize) {
+    /// a parenthesis, as a definition does whose head is wrong too. The `;` of an array belongs to its item.
+    fn recover(&mut self) {
         let mistake = self.at;
-        self.at = began + 1;
+        self.at = self.began + 1;
         while self.at < mistake && !self.begins_at_margin() {
             self.at += 1;
         }
-        while *self.peek() != Kind::End && !self.seems_to_begin() {
+        let mut open = Brackets::default();
+        self.tokens[self.began..self.at].iter().for_each(|token| open.pass(&token.kind));
+        while *self.peek() != Kind::End && !self.seems_to_begin(&open) {
+            open.pass(self.peek());
             self.at += 1;
         }
     }
 
-    fn seems_to_begin(&self) -> bool {
+    fn seems_to_begin(&self, open: &Brackets) -> bool {
         let indent = self.tokens[self.at].indent;
-        let is_named = matches!(self.peek(), Kind::Name(word, false) if !super::names::is_keyword(word));
+        let is_named = matches!(self.peek(), Kind::Name(word, false) if !names::is_keyword(word));
         let is_call = is_named && *self.peek_at(1) == Kind::Symbol("(");
-        let is_behind = self.at > 0 && self.tokens[self.at - 1].kind == Kind::Symbol(";");
-        let is_named_rule = self.has_rule_head() && *self.peek_at(1) != Kind::Symbol(":");
-        indent.is_some() && self.has_head() || indent == Some(0) && is_call || is_named_rule || is_behind
+        let is_behind = self.at > 0 && self.tokens[self.at - 1].kind == Kind::Symbol(";") && !open.are_of_array();
+        let is_named_rule = self.has_rule_head(self.at) && *self.peek_at(1) != Kind::Symbol(":");
+        indent.is_some() && self.has_head(self.at) || indent == Some(0) && is_call || is_named_rule || is_behind
     }
 
-    /// The name of the macro that an item with a mistake was to define, if it was to define one.
-    fn broken_name(&self, began: usize) -> Option<Vec<u8>> {
-        let kind = |at: usize| &self.tokens[at.min(self.tokens.len() - 1)].kind;
-        let has_word = is_word(kind(began), "value") || is_word(kind(began), "cedar");
-        let at = began + usize::from(has_word);
-        let is_head = has_word || *kind(at + 1) == Kind::Symbol("(");
-        match kind(at) {
-            Kind::Name(name, _) if is_head => Some(name.clone()),
+    /// The name of the macro that an item with a mistake was to define, if it was to define one: the last name before a
+    /// parenthesis, whatever words are before it.
+    fn broken_name(&self) -> Option<Vec<u8>> {
+        let began = self.began;
+        let names: Vec<&[u8]> = (began..).map_while(|at| self.name_of_head(at)).take(MOST_WORDS + 1).collect();
+        let is_rule = is_word(self.kind(began), "rule") && !self.is_head(began + 1);
+        let name = match &names[..] {
+            [.., last] if !is_rule && *self.kind(began + names.len()) == Kind::Symbol("(") => last,
+            [b"value" | b"cedar", name, ..] => name,
+            _ => return None,
+        };
+        Some(name.to_vec())
+    }
+
+    /// A macro's name, or a word that may stand before one.
+    fn name_of_head(&self, at: usize) -> Option<&[u8]> {
+        match self.kind(at) {
+            Kind::Name(word, false) if names::is_keyword(word) && !matches!(&word[..], b"value" | b"cedar") => None,
+            Kind::Name(word, _) => Some(word),
             _ => None,
         }
+    }
+
+    /// A root in a text that has no macro and no rule: they would be no part of its one tree. What is wrong with the root
+    /// itself is told first.
+    fn lone_root(&mut self, document: &Document) -> Result<Placed, Mistake> {
+        let start = self.start();
+        let end = self.tokens[self.at].end;
+        let root = self.root()?;
+        if document.definitions.is_empty() && document.rules.is_empty() {
+            return Ok(root);
+        }
+        Err(Mistake::new(start, end, "expected no macro and no rule before `root`, which is the one tree of its text"))
     }
 
     /// `root call m(5)`: one tree of a kind that its text does not tell, and nothing else.
@@ -207,29 +291,83 @@ impl Parser {
         }
     }
 
-    /// Whether a definition begins here: `m(..) =`, or `value` or `cedar` before a name.
-    fn is_definition(&self) -> bool {
-        if self.is_word("value") || self.is_word("cedar") {
-            return matches!(self.peek_at(1), Kind::Name(..));
-        }
-        if !matches!(self.peek(), Kind::Name(..)) || *self.peek_at(1) != Kind::Symbol("(") {
-            return false;
-        }
-        let in_head = |kind: &Kind| matches!(kind, Kind::Name(..) | Kind::Number(_) | Kind::Symbol("," | "@" | ".."));
-        let close = (2..).find(|ahead| !in_head(self.peek_at(*ahead))).expect("the end is in no head");
+    /// Whether a definition begins at a place: `m(..) =`, or `value` or `cedar` before a name; or one with a wrong word before
+    /// it, or without its `=`.
+    fn is_definition(&self, at: usize) -> bool {
+        let has_word = is_word(self.kind(at), "value") || is_word(self.kind(at), "cedar");
+        let is_named = has_word && matches!(self.kind(at + 1), Kind::Name(..));
+        is_named || self.is_head(at) || self.has_wrong_word(at) || self.lacks_equals(at)
+    }
+
+    /// Whether a word begins a definition that belongs before none: `let m(x) = …`, `def temporal m(x) = …`. No expression
+    /// has two names side by side. The name at the margin would be a definition's own beginning.
+    fn has_wrong_word(&self, at: usize) -> bool {
+        let is_plain = |at: usize| matches!(self.kind(at), Kind::Name(word, false) if !names::is_keyword(word));
+        let is_behind = |at: &usize| is_plain(at - 1) && self.tokens[*at].indent != Some(0);
+        let mut heads = (at + 1..).take(MOST_WORDS).take_while(is_behind);
+        heads.any(|at| self.is_head(at)) || self.has_misspelt_word(at)
+    }
+
+    /// `ceder c(x)`, which has no `=` to be known by.
+    fn has_misspelt_word(&self, at: usize) -> bool {
+        let is_named = matches!(self.kind(at + 1), Kind::Name(..)) && *self.kind(at + 2) == Kind::Symbol("(");
+        let is_near = |kind: &Kind| matches!(kind, Kind::Name(word, false) if meant::is_before_names(word));
+        let is_first = |at: usize| self.tokens[at].indent.is_some();
+        is_first(at) && is_named && !is_first(at + 1) && is_near(self.kind(at))
+    }
+
+    /// Whether what looks like a call is the head of a definition without `=`: it has names alone and stands at the margin,
+    /// and behind it, not at the margin, stands what no call goes on with and begins no other item.
+    fn lacks_equals(&self, at: usize) -> bool {
+        let is_first = |at: usize| self.tokens[at].indent == Some(0);
+        let close = self.end_of_head(at).filter(|close| *self.kind(*close) == Kind::Symbol(")"));
+        let Some(close) = close.filter(|_| is_first(at)) else { return false };
+        let has_names = (at + 2..close).all(|at| matches!(self.kind(at), Kind::Name(..) | Kind::Symbol(",")));
+        let behind = self.kind(close + 1);
+        let is_body = *behind != Kind::Bad && begins_another(behind) || matches!(behind, Kind::Symbol("(" | ":"));
+        let is_arrow = *behind == Kind::Symbol("-") && *self.kind(close + 2) == Kind::Symbol(">");
+        has_names && (is_body || is_arrow) && !is_first(close + 1) && !self.has_head(close + 1)
+    }
+
+    /// Whether `m(..) =` stands at a place. One whose `)` is missing is one too, as nothing else has a `=`.
+    fn is_head(&self, at: usize) -> bool {
+        let Some(close) = self.end_of_head(at) else { return false };
         let in_span = |kind: &Kind| matches!(kind, Kind::Number(_) | Kind::Symbol("@" | ".."));
-        let behind = (close + 1..).find(|ahead| !in_span(self.peek_at(*ahead))).expect("the end is in no span");
-        *self.peek_at(close) == Kind::Symbol(")") && *self.peek_at(behind) == Kind::Symbol("=")
+        let behind = (close + 1..).find(|at| !in_span(self.kind(*at))).expect("the end is in no span");
+        match self.kind(close) {
+            Kind::Symbol(")") => *self.kind(behind) == Kind::Symbol("="),
+            Kind::Symbol("=") => (at + 2..close).all(|at| is_in_head(self.kind(at))),
+            _ => false,
+        }
+    }
+
+    /// Where the parameters end that stand in parentheses behind a name, be they right or wrong.
+    fn end_of_head(&self, at: usize) -> Option<usize> {
+        let is_named = matches!(self.kind(at), Kind::Name(..)) && *self.kind(at + 1) == Kind::Symbol("(");
+        let is_wrong = |kind: &Kind| match kind {
+            Kind::Text(_) | Kind::Interval(..) | Kind::Parameter(_) | Kind::Binder(_) => true,
+            Kind::Symbol(symbol) => matches!(*symbol, ":" | "::" | "."),
+            _ => false,
+        };
+        let is_inside = |kind: &Kind| is_in_head(kind) || is_wrong(kind);
+        is_named.then(|| (at + 2..).find(|at| !is_inside(self.kind(*at))).expect("the end is in no head"))
     }
 
     /// `m(x) = condition`, `value v(x) = term`, `cedar c(x)`
     fn definition(&mut self) -> Result<Placed, Mistake> {
         let start = self.start();
+        if self.has_wrong_word(self.at) {
+            return self.expected(meant::BEFORE_NAME);
+        }
         let code = match () {
             () if self.word("value") => 63,
             () if self.word("cedar") => 61,
             () => 62,
         };
+        // `value` may stand on a line of its own.
+        if code == 63 && self.is_head(self.at) {
+            self.began = self.at;
+        }
         let name = self.name("a macro's name")?;
         let (name, listed) = (self.texted(40, &name), self.start());
         self.expect("(", " and the parameters")?;
@@ -252,34 +390,55 @@ impl Parser {
 
     fn parameter(&mut self) -> Result<[Placed; 2], Mistake> {
         let start = self.start();
-        if self.begins_at_margin() {
-            return self.expected("a parameter's name");
-        }
         let name = self.name("a parameter's name")?;
         let (counted, name) = (self.span_from(start), self.texted(40, &name));
         let written = self.annotation()?.map(|written| written.single("a parameter")).transpose()?;
         Ok([Placed::new(42, written.unwrap_or(counted), name.place, vec![]), name])
     }
 
-    fn has_rule_head(&self) -> bool {
-        let is_colon = |kind: &Kind| *kind == Kind::Symbol(":");
-        let is_name = matches!(self.peek_at(1), Kind::Name(..) | Kind::Text(_));
-        is_word(self.peek(), "rule") && (is_colon(self.peek_at(1)) || is_name && is_colon(self.peek_at(2)))
+    fn has_rule_head(&self, at: usize) -> bool {
+        let is_colon = |at: usize| *self.kind(at) == Kind::Symbol(":");
+        let is_name = matches!(self.kind(at + 1), Kind::Name(..) | Kind::Text(_));
+        is_word(self.kind(at), "rule") && (is_colon(at + 1) || is_name && is_colon(at + 2))
+    }
+
+    /// Whether a rule begins at a place, even if its `:` is missing: then no variable `rule` goes on that way.
+    fn begins_rule(&self, at: usize) -> bool {
+        self.has_rule_head(at) || is_word(self.kind(at), "rule") && begins_another(self.kind(at + 1))
     }
 
     /// `rule name: condition`, or a condition alone.
     fn rule(&mut self) -> Result<(Option<String>, Placed), Mistake> {
-        if !self.has_rule_head() {
+        if !self.begins_rule(self.at) {
             return Ok((None, self.condition()?));
         }
         self.at += 1;
-        let name = match self.take() {
-            Kind::Name(text, _) | Kind::Text(text) => {
-                self.at += 1;
-                Some(String::from_utf8_lossy(&text).to_string())
-            }
+        let name = match self.peek() {
+            Kind::Name(..) if self.begins_at_margin() => None,
+            Kind::Name(text, _) | Kind::Text(text) => Some(String::from_utf8_lossy(text).to_string()),
             _ => None,
         };
+        self.at += usize::from(name.is_some());
+        self.expect(":", if name.is_some() { " behind the rule's name" } else { " or a name behind `rule`" })?;
         Ok((name, self.condition()?))
+    }
+}
+
+/// How many words may stand before a macro's name, so that it is still seen as one: `def temporal m(x) = …`.
+const MOST_WORDS: usize = 2;
+
+/// Whether a definition has such a token between its parentheses.
+fn is_in_head(kind: &Kind) -> bool {
+    matches!(kind, Kind::Name(..) | Kind::Number(_) | Kind::Symbol("," | "@" | ".."))
+}
+
+/// Whether this begins an expression and goes on with none, so that what stands before it has ended. A bad token was most
+/// likely meant to be such a one.
+fn begins_another(kind: &Kind) -> bool {
+    match kind {
+        Kind::Name(word, is_quoted) => *is_quoted || ![&b"since"[..], b"for", b"where"].contains(&&word[..]),
+        Kind::Text(_) | Kind::Number(_) | Kind::Interval(..) | Kind::Parameter(_) | Kind::Binder(_) | Kind::Bad => true,
+        Kind::Symbol(symbol) => matches!(*symbol, "!" | "["),
+        Kind::End => false,
     }
 }

@@ -1,6 +1,8 @@
 //! Text to tokens.
 
+use super::bounds::{MOST_REPEATS, Size};
 use super::names;
+use crate::source::MARK;
 
 /// What is wrong with a text, and where: bytes `start` to `end` of it.
 #[derive(Clone, Debug, PartialEq, Eq)]
@@ -52,19 +54,20 @@ const SYMBOLS: [&str; 27] = [
     "!", "+", "-", "*", "@", "/",
 ];
 
-/// The byte order mark.
-const MARK: char = '\u{FEFF}';
+/// The digits of the largest number that says how often a character stands there.
+const DIGITS: usize = MOST_REPEATS.ilog10() as usize + 1;
 
 /// The units of an interval with their codes.
 pub const UNITS: [(&str, u8); 5] = [("s", 48), ("m", 49), ("h", 50), ("d", 51), ("w", 64)];
 
 /// The tokens of a text, with a bad one for each mistake.
 pub fn tokens(text: &str) -> (Vec<Token>, Vec<Mistake>) {
-    let mut lexer = Lexer { text, at: 0 };
+    let at = if text.starts_with(MARK) { MARK.len_utf8() } else { 0 };
+    let mut lexer = Lexer { text, at, repeated: Size::default() };
     let (mut tokens, mut mistakes) = (Vec::new(), Vec::new());
     loop {
-        lexer.skip_blanks();
-        let (start, indent) = (lexer.at, lexer.indent());
+        let skipped = lexer.skip_blanks();
+        let (start, indent) = (lexer.at, indent(skipped, tokens.is_empty()));
         let kind = lexer.next().unwrap_or_else(|mistake| {
             lexer.at = lexer.at.max(mistake.end);
             mistakes.push(mistake);
@@ -78,12 +81,30 @@ pub fn tokens(text: &str) -> (Vec<Token>, Vec<Mistake>) {
     }
 }
 
+/// How many characters stand before a token on its line, if those are blanks alone: then the line's beginning is in what was
+/// skipped before the token, or is the text's.
+fn indent(skipped: &str, is_first: bool) -> Option<usize> {
+    let line = match skipped.rfind('\n') {
+        Some(end) => &skipped[end + 1..],
+        None if is_first => skipped,
+        None => return None,
+    };
+    line.chars().all(char::is_whitespace).then(|| line.chars().count())
+}
+
+/// Whether a line ends here, with or without a `\r` before its end or the text's.
+fn is_line_end(rest: &str) -> bool {
+    rest.starts_with('\n') || rest.starts_with("\r\n") || rest == "\r"
+}
+
 struct Lexer<'a> {
     text: &'a str,
     at: usize,
+    /// What repeated characters have come to.
+    repeated: Size,
 }
 
-impl Lexer<'_> {
+impl<'a> Lexer<'a> {
     fn rest(&self) -> &str {
         &self.text[self.at..]
     }
@@ -91,6 +112,8 @@ impl Lexer<'_> {
     fn next(&mut self) -> Result<Kind, Mistake> {
         match self.rest().chars().next() {
             None => Ok(Kind::End),
+            // What was too much has been told, and there may be as many mistakes behind it as repeated characters.
+            Some(_) if self.repeated.over().is_some() => Ok(Kind::End),
             Some(c) if c.is_ascii_digit() => self.number(),
             Some('"') => self.in_quotes('"').map(Kind::Text),
             Some('\'') => self.in_quotes('\'').map(|text| Kind::Name(text, true)),
@@ -99,23 +122,13 @@ impl Lexer<'_> {
         }
     }
 
-    fn indent(&self) -> Option<usize> {
-        let before = &self.text[..self.at];
-        let line = &before[before.rfind('\n').map_or(0, |end| end + 1)..];
-        line.trim_start_matches(MARK).chars().all(char::is_whitespace).then(|| line.chars().count())
-    }
-
     /// Blanks, line ends, and comments from `//` to the end of a line.
-    fn skip_blanks(&mut self) {
+    fn skip_blanks(&mut self) -> &'a str {
+        let (text, start) = (self.text, self.at);
         loop {
-            // Some editors begin a text with a mark that nobody sees.
-            let is_mark = self.at == 0 && self.rest().starts_with(MARK);
-            self.at += if is_mark { MARK.len_utf8() } else { names::prefix(self.rest(), char::is_whitespace) };
-            if is_mark {
-                continue;
-            }
+            self.at += names::prefix(self.rest(), char::is_whitespace);
             if !self.rest().starts_with("//") {
-                return;
+                return &text[start..self.at];
             }
             self.at += names::prefix(self.rest(), |c| c != '\n');
         }
@@ -184,13 +197,13 @@ impl Lexer<'_> {
         // A bad escape is told when the end is found, so that what stands behind it is not taken for something else.
         let mut wrong = None;
         loop {
-            let Some(c) = self.rest().chars().next().filter(|c| *c != '\n') else {
+            let Some(c) = self.rest().chars().next().filter(|_| !is_line_end(self.rest())) else {
                 return Err(Mistake::new(start, self.at, format!("expected `{quote}` at the end of this text")));
             };
             self.at += c.len_utf8();
             let piece = match c {
                 _ if c == quote => return wrong.map_or(Ok(text), Err),
-                '\\' if self.rest().starts_with('{') => self.repeat().map(|count| last.repeat(count.saturating_sub(1))),
+                '\\' if self.rest().starts_with('{') => self.repeat(&last),
                 '\\' => self.escape().inspect(|piece| last.clone_from(piece)),
                 _ => {
                     last = c.to_string().into_bytes();
@@ -223,18 +236,24 @@ impl Lexer<'_> {
         }
     }
 
-    /// `{20}`: how often the character before it stands there.
-    fn repeat(&mut self) -> Result<usize, Mistake> {
+    /// `{20}`: how often the character before it stands there. What it comes to beside that character.
+    fn repeat(&mut self, character: &[u8]) -> Result<Vec<u8>, Mistake> {
         let start = self.at - 1;
-        let inner = self.rest()[1..].split_once('}').map(|(inner, _)| inner.to_string());
-        let count = inner.as_deref().and_then(|digits| digits.parse::<usize>().ok()).filter(|n| (1..=4096).contains(n));
-        match (inner, count) {
-            (Some(digits), Some(count)) => {
-                self.at += digits.len() + 2;
-                Ok(count)
-            }
-            _ => Err(Mistake::new(start, self.at, "expected a number from 1 to 4096 and `}` behind `\\{`")),
+        let rest = &self.rest()[1..];
+        // No more is looked at than a number has that may stand there: each `\{` may be one of many that lack their end.
+        let digits = rest.bytes().take(DIGITS).take_while(u8::is_ascii_digit).count();
+        let is_closed = rest[digits..].starts_with('}');
+        let count = rest[..digits].parse().ok().filter(|n| (1..=MOST_REPEATS).contains(n));
+        let Some(count) = count.filter(|_| is_closed) else {
+            let what = format!("expected a number from 1 to {MOST_REPEATS} and `}}` behind `\\{{`");
+            return Err(Mistake::new(start, self.at, what));
+        };
+        self.at += digits + 2;
+        self.repeated.text += character.len() * (count - 1);
+        if let Some(what) = self.repeated.over() {
+            return Err(Mistake::new(start, self.at, what));
         }
+        Ok(character.repeat(count - 1))
     }
 }
 
@@ -273,6 +292,14 @@ mod tests {
         assert_eq!(place("a ~"), (2, 3));
         assert_eq!(place("'a\nb'"), (0, 2));
         assert_eq!(place("a 'b\\q\\z' c"), (4, 5));
+        assert_eq!(place("a \"b\r\nc"), (2, 4));
+        assert_eq!(place("a \"b\r"), (2, 4));
+        for count in ["", "0", "4097", "00020", "20", "20 }"] {
+            let end = if count == "20" { "" } else { "}" };
+            assert_eq!(place(&format!("'b\\{{{count}{end}'")), (2, 3), "{count}");
+        }
+        // Many of them take no time.
+        assert_eq!(tokens(&"'\\{'\n".repeat(200_000)).1.len(), 200_000);
     }
 
     #[test]
@@ -284,5 +311,13 @@ mod tests {
         assert_eq!(mistakes.len(), 4);
         let indents: Vec<Option<usize>> = tokens.iter().map(|token| token.indent).collect();
         assert_eq!(indents, [Some(0), None, None, None, Some(2), Some(0), None]);
+    }
+
+    #[test]
+    fn an_indent_is_of_blanks_alone() {
+        let indents = |text: &str| tokens(text).0.iter().map(|token| token.indent).collect::<Vec<Option<usize>>>();
+        assert_eq!(indents("\u{FEFF}a\n// b\n\tc d // e"), [Some(0), Some(1), None, None]);
+        assert_eq!(indents("  a\r\n\r\n b\n"), [Some(2), Some(1), Some(0)]);
+        assert_eq!(indents("// a"), [None]);
     }
 }

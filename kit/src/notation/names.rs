@@ -1,5 +1,7 @@
 //! How names and texts are spelled: plain where they can be, quoted otherwise.
 
+use super::bounds::MOST_REPEATS;
+
 /// Words that mean something where a name could stand. As a name each has to be quoted.
 pub const KEYWORDS: [&str; 20] = [
     "true",
@@ -78,6 +80,11 @@ pub fn name(text: &[u8]) -> String {
     }
 }
 
+/// A text as it is told of to a reader: as it is, or in quotes if it has what nobody sees, such as a line's end.
+pub fn visible(text: &str) -> String {
+    if text.chars().all(is_visible) { text.to_string() } else { quoted(text.as_bytes(), '"') }
+}
+
 /// A name where no keyword is read: a segment of a path, a predicate's kind.
 pub fn segment(text: &[u8]) -> String {
     match std::str::from_utf8(text) {
@@ -103,8 +110,7 @@ pub fn quoted(text: &[u8], quote: char) -> String {
     for chunk in text.utf8_chunks() {
         let mut rest = chunk.valid();
         while let Some(c) = rest.chars().next() {
-            let run = prefix(rest, |other| other == c);
-            let count = run / c.len_utf8();
+            let count = rest.chars().take(MOST_REPEATS).take_while(|other| *other == c).count();
             // Of what is written byte by byte the length would be that of its last byte.
             let is_long = count >= LONG_RUN && (is_visible(c) || c.is_ascii());
             let shown = if is_long { 1 } else { count };
@@ -112,7 +118,7 @@ pub fn quoted(text: &[u8], quote: char) -> String {
             if shown < count {
                 out.push_str(&format!("\\{{{count}}}"));
             }
-            rest = &rest[run..];
+            rest = &rest[count * c.len_utf8()..];
         }
         chunk.invalid().iter().for_each(|byte| out.push_str(&format!("\\x{byte:02X}")));
     }
@@ -148,6 +154,14 @@ mod tests {
         }
         assert_eq!(name(b"it's \\"), r"'it\'s \\'");
         assert_eq!(name(&[b'a'; 64]), r"'a\{64}'");
+    }
+
+    #[test]
+    fn a_text_is_told_as_it_is_if_it_is_seen() {
+        for text in ["a lock of fifteen minutes", "Küche \"日本\" \\", "e\u{301}"] {
+            assert_eq!(visible(text), text);
+        }
+        assert_eq!(visible("a\nb\u{1B}[31m\u{AD}"), r#""a\x0Ab\x1B[31m\xC2\xAD""#);
     }
 
     #[test]

@@ -85,6 +85,14 @@ impl Placed {
         self.children.iter().for_each(|child| child.visit(f));
     }
 
+    /// The first entry that lies inside so many others.
+    pub fn below(&self, others: usize) -> Option<&Placed> {
+        match others.checked_sub(1) {
+            None => Some(self),
+            Some(others) => self.children.iter().find_map(|child| child.below(others)),
+        }
+    }
+
     /// The first entry, in entry order, that is as wanted.
     pub fn find(&self, is_wanted: &impl Fn(&Placed) -> bool) -> Option<&Placed> {
         let below = || self.children.iter().find_map(|child| child.find(is_wanted));

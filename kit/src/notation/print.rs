@@ -1,5 +1,6 @@
 //! Trees to text.
 
+use super::bounds::MOST_REPEATS;
 use super::expression::{ARITHMETIC, COMPARISONS, Level};
 use super::items::Rule;
 use super::lex::UNITS;
@@ -226,7 +227,7 @@ impl Printer {
         let mut written = Vec::new();
         let mut rest = items;
         while let Some(first) = rest.first() {
-            let run = rest.iter().take_while(|item| *item == first).count();
+            let run = rest.iter().take(MOST_REPEATS).take_while(|item| *item == first).count();
             let text = self.term(first, Level::Whole);
             match run {
                 ..LONG_RUN => written.extend(vec![text; run]),

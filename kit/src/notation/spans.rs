@@ -47,7 +47,7 @@ impl Written {
 
     /// Both spans of what has two: one that is written alone is for both.
     fn both(&self, outer: &mut u64, inner: &mut u64) {
-        if let Some(span) = self.outer.or(None) {
+        if let Some(span) = self.outer {
             *outer = span;
         }
         if let Some(span) = self.inner.or(self.outer) {

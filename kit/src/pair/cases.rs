@@ -1,11 +1,17 @@
 //! The cases of a pairing: those of a corpus, then those of a seed, each as both heads can take it.
 
+use super::process::Outcome;
 use crate::archive::Expander;
 use crate::protocol::{self, Asked};
 use crate::reading;
+use crate::response::Response;
 use crate::serve::Hello;
 use differential::case::{COUNTS, Case, OPERATIONS, Operation};
 use differential::generate;
+use differential::tape::{self, Sort};
+use differential::vectors::without_zeros;
+use std::fs::ReadDir;
+use std::io;
 use std::path::Path;
 
 /// Where a case is from.
@@ -40,10 +46,10 @@ pub struct Common {
 }
 
 impl Common {
-    pub fn of(hellos: &[Hello; 2], only: Option<&[String]>) -> Common {
+    pub fn of(hellos: &[Hello; 2], only: Option<&[Operation]>) -> Common {
         let wanted = |operation: &Operation| {
-            let name = operation.name().to_string();
-            hellos.iter().all(|hello| hello.operations.contains(&name)) && only.is_none_or(|only| only.contains(&name))
+            hellos.iter().all(|hello| hello.has_operation(*operation))
+                && only.is_none_or(|only| only.contains(operation))
         };
         let both = |feature: &str| hellos.iter().all(|hello| hello.has(feature));
         Common {
@@ -70,9 +76,19 @@ impl Common {
         protocol::cut_to_fit(case)
     }
 
+    /// Whether the two are compared by older tapes, as one of them has no weeks.
+    pub fn by_older(&self) -> bool {
+        self.weeks != [true; 2]
+    }
+
+    /// Two answers as they are compared.
+    pub fn compared(&self, outcomes: [Outcome; 2]) -> [Outcome; 2] {
+        if self.by_older() { outcomes.map(|outcome| outcome.map(with_older_result)) } else { outcomes }
+    }
+
     /// The case as each of the heads is sent it: as it is, or with its tapes' older tapes, if they have such.
     pub fn for_both(&self, case: &Case, expander: &mut Expander) -> Option<[Case; 2]> {
-        let older = if self.weeks == [true; 2] { None } else { Some(older(case, expander)?) };
+        let older = if self.by_older() { Some(older(case, expander)?) } else { None };
         Some(self.weeks.map(|weeks| if weeks { case.clone() } else { older.clone().expect("made above") }))
     }
 }
@@ -85,11 +101,10 @@ fn make_ascii(tape: &mut [u8]) {
 }
 
 /// The case with the older tape of each of its tapes, if each has one.
-fn older(case: &Case, expander: &mut Expander) -> Option<Case> {
-    let operation = OPERATIONS.into_iter().find(|operation| operation.name() == "older")?;
+pub fn older(case: &Case, expander: &mut Expander) -> Option<Case> {
     let mut older = case.clone();
     for tape in &mut older.tapes {
-        let response = expander.answer(&Case::new(operation, 0, vec![tape.clone()]));
+        let response = expander.answer(&Case::new(Operation::Older, 0, vec![tape.clone()]));
         if response.number() != 0 {
             return None;
         }
@@ -98,9 +113,19 @@ fn older(case: &Case, expander: &mut Expander) -> Option<Case> {
     Some(older)
 }
 
+/// The answer with the older tape of its result, for a comparison with a head that knows no weeks.
+fn with_older_result(mut response: Response) -> Response {
+    let tree = reading::tree(&reading::with_zeros(&response.result), Sort::Any);
+    if let Some(older) = tree.ok().and_then(|tree| tape::older(&tape::withdrawn(&tree))) {
+        response.result = without_zeros(&tape::encode(&older)).to_vec();
+    }
+    response
+}
+
 /// The cases in their order: place 0 is the first.
 pub struct Cases {
-    corpus: Vec<(Origin, Case)>,
+    /// No case in the place of a frame that asks for an operation which the kit does not know.
+    corpus: Vec<(Origin, Option<Case>)>,
     seed: u64,
     from: u64,
     count: u64,
@@ -123,12 +148,11 @@ impl Cases {
         self.corpus.len() as u64 + self.count
     }
 
-    /// The case at a place. Nothing in the place of one that need not be made, as its operation is not in common.
+    /// The case at a place. Nothing in the place of one whose operation is not in common: it need not be made, or cannot be.
     pub fn at(&self, place: u64) -> (Origin, Option<Case>) {
         let behind = place.checked_sub(self.corpus.len() as u64);
         let Some(index) = behind.map(|behind| self.from + behind) else {
-            let (origin, case) = self.corpus[place as usize].clone();
-            return (origin, Some(case));
+            return self.corpus[place as usize].clone();
         };
         let is_common = self.only.contains(&generate::operation(self.seed, index));
         let case = is_common.then(|| generate::case(self.seed, index));
@@ -137,9 +161,9 @@ impl Cases {
 }
 
 /// The cases of a folder's files of requests.
-fn read_corpus(folder: &str) -> Result<Vec<(Origin, Case)>, String> {
-    let entries = std::fs::read_dir(folder).map_err(|e| format!("{folder}: {e}"))?;
-    let mut paths: Vec<_> = entries.filter_map(|entry| Some(entry.ok()?.path())).collect();
+fn read_corpus(folder: &str) -> Result<Vec<(Origin, Option<Case>)>, String> {
+    let paths = |entries: ReadDir| entries.map(|entry| Ok(entry?.path())).collect::<io::Result<Vec<_>>>();
+    let mut paths = std::fs::read_dir(folder).and_then(paths).map_err(|e| format!("{folder}: {e}"))?;
     paths.retain(|path| path.extension().is_some_and(|extension| extension == "requests"));
     paths.sort();
     if paths.is_empty() {
@@ -152,16 +176,16 @@ fn read_corpus(folder: &str) -> Result<Vec<(Origin, Case)>, String> {
     Ok(found)
 }
 
-fn read_requests(path: &Path) -> Result<Vec<(Origin, Case)>, String> {
+fn read_requests(path: &Path) -> Result<Vec<(Origin, Option<Case>)>, String> {
     let bytes = std::fs::read(path).map_err(|e| format!("{}: {e}", path.display()))?;
     let named = |what: String| format!("{}: {what}", path.display());
     let mut rest = &bytes[..];
     let mut found = Vec::new();
     while let Some(body) = protocol::read_frame(&mut rest).map_err(|e| named(e.to_string()))? {
-        if let (id, Asked::Case(case)) = protocol::read_request(&body).map_err(named)? {
-            let file = path.file_name().map_or(String::new(), |name| name.to_string_lossy().to_string());
-            found.push((Origin::Corpus(file, id), *case));
-        }
+        let (id, asked) = protocol::read_request(&body).map_err(named)?;
+        let file = path.file_name().map_or(String::new(), |name| name.to_string_lossy().to_string());
+        let case = if let Asked::Case(case) = asked { Some(*case) } else { None };
+        found.push((Origin::Corpus(file, id), case));
     }
     Ok(found)
 }

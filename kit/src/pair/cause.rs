@@ -56,7 +56,7 @@ impl Answered {
         match outcome {
             Ok(response) => Answered::Number(response.number()),
             Err(Failure::Hangs(_)) => Answered::Hangs,
-            Err(Failure::Dies(_)) => Answered::Dies,
+            Err(Failure::Dies { .. }) => Answered::Dies,
             Err(Failure::Garbage(_)) => Answered::Garbage,
         }
     }

@@ -24,7 +24,7 @@ impl Complaints {
     }
 
     pub fn is_empty(&self) -> bool {
-        self.text().is_empty()
+        self.left_out == 0 && self.first.iter().chain(&self.last).all(u8::is_ascii_whitespace)
     }
 
     /// All of it as text, or both ends with a line between them that says how much is missing there.

@@ -2,10 +2,13 @@
 
 use super::cause::{Answered, Cause, First};
 use super::complaints::Complaints;
+use super::heads::NotRun;
 use super::limits;
 use super::report::{self, LETTERS, answered, what_differs};
-use super::run::{Found, Gathered, Old, Pairing, State, Went};
+use super::run::{Found, Gathered, Old, Pairing, State, Status, Went, status};
+use crate::hex;
 use crate::json::Value;
+use differential::case;
 use std::fmt::Write;
 
 // ------------------------------------------------------------------ JSON
@@ -14,29 +17,31 @@ use std::fmt::Write;
 pub fn json(went: &Went, names: &[String; 2]) -> Value {
     let heads: Value = (0..2).map(|i| head(went, names, i)).collect();
     let no_hello = match went {
-        Ok(_) => Value::Null,
-        Err((i, failure, complaints)) => Value::Object(vec![
+        Err(NotRun::NoHello((i, failure, complaints))) => Value::Object(vec![
             ("head", LETTERS[*i].into()),
             ("how", failure.to_string().into()),
             ("standard_error", said(complaints)),
         ]),
+        _ => Value::Null,
+    };
+    let number = match status(went) {
+        Status::Equal => 0,
+        Status::Differs => 1,
+        Status::Trouble => 2,
     };
     let of = |value: &dyn Fn(&Pairing) -> Value| went.as_ref().map_or(Value::Null, value);
     Value::Object(vec![
         ("heads", heads),
         ("no_hello", no_hello),
-        ("status", Value::Number(u64::from(!is_equal(went)))),
+        ("status", Value::Number(number)),
+        ("error", report::trouble(went, names).into()),
         ("cases", of(&|pairing| pairing.ran.into())),
         ("left_out", of(&|pairing| pairing.left_out.into())),
-        ("ended", of(&|pairing| pairing.ended.clone().into())),
+        ("ended", of(&|pairing| pairing.ended.as_ref().map(ToString::to_string).into())),
+        ("note", of(&|pairing| pairing.note.clone().into())),
         ("old", of(&|pairing| pairing.old.iter().map(old).collect())),
         ("causes", of(&|pairing| pairing.causes.iter().map(gathered).collect())),
     ])
-}
-
-/// Whether nothing differed: exit status 0.
-pub fn is_equal(went: &Went) -> bool {
-    went.as_ref().is_ok_and(|pairing| pairing.causes.is_empty())
 }
 
 fn head(went: &Went, names: &[String; 2], i: usize) -> Value {
@@ -57,7 +62,7 @@ fn state(state: State) -> &'static str {
 }
 
 fn gathered(gathered: &Gathered) -> Value {
-    let Gathered { found, cause, seen } = gathered;
+    let Gathered { found, cause, seen, .. } = gathered;
     let seen = seen.iter().map(|(cause, origin, cases)| {
         let more = [("cases", Value::from(*cases)), ("first", origin.to_string().into())];
         Value::Object(cause_members(cause).into_iter().chain(more).collect())
@@ -65,8 +70,10 @@ fn gathered(gathered: &Gathered) -> Value {
     let mut members = cause_members(cause);
     members.extend([
         ("cases", gathered.cases().into()),
-        ("first", found.origin.to_string().into()),
+        ("first", gathered.first().to_string().into()),
+        ("from", found.origin.to_string().into()),
         ("needs_history", found.needs_history.into()),
+        ("unexamined", found.unexamined.clone().into()),
         ("seen", seen.collect()),
         ("tries", found.smallest.tries.into()),
         ("case", case(found)),
@@ -102,8 +109,6 @@ fn cause_members(cause: &Cause) -> Vec<(&'static str, Value)> {
 fn case(found: &Found) -> Value {
     let shape = &found.smallest.shape;
     let case = shape.case();
-    let used = case.counts.iter().rposition(|count| *count != 0).map_or(0, |last| last + 1);
-    let hex = |tape: &Vec<u8>| tape.iter().map(|byte| format!("{byte:02x}")).collect::<String>();
     Value::Object(vec![
         ("operation", case.operation.name().into()),
         ("entries", shape.entries().into()),
@@ -112,8 +117,8 @@ fn case(found: &Found) -> Value {
         ("file", u32::from(case.file).into()),
         ("index", case.index.into()),
         ("buffers", case.sizes.into_iter().collect()),
-        ("counts", case.counts[..used].iter().copied().collect()),
-        ("tapes", case.tapes.iter().map(hex).collect()),
+        ("counts", case::used(&case.counts).iter().copied().collect()),
+        ("tapes", case.tapes.iter().map(|tape| hex::of(tape)).collect()),
     ])
 }
 
@@ -125,18 +130,24 @@ fn said(complaints: &Complaints) -> Value {
 
 /// The report as JUnit's XML: a test for each operation that was tried, and one for each case that was found before.
 pub fn junit(went: &Went, names: &[String; 2]) -> String {
-    let tests = match went {
-        Ok(pairing) => of_operations(pairing).chain(of_old(pairing)).collect(),
-        Err(no_hello) => vec![Test {
-            name: "hello".to_string(),
-            failure: Some(report::of_no_hello(no_hello, names)),
-            skipped: false,
-        }],
+    let tests: Vec<Test> = match (went, report::trouble(went, names)) {
+        (Ok(pairing), trouble) => {
+            of_operations(pairing).chain(of_old(pairing)).chain(trouble.map(of_trouble)).collect()
+        }
+        (Err(_), Some(trouble)) => vec![of_trouble(trouble)],
+        (Err(not_run), None) => {
+            vec![Test { name: "hello".to_string(), came: Came::Failed(report::of_not_run(not_run, names)) }]
+        }
     };
-    let count = |is: &dyn Fn(&Test) -> bool| tests.iter().filter(|test| is(test)).count();
-    let (failures, skipped) = (count(&|test| test.failure.is_some()), count(&|test| test.skipped));
+    let count = |is: fn(&Came) -> bool| tests.iter().filter(|test| is(&test.came)).count();
+    let (failures, errors, skipped) = (
+        count(|came| matches!(came, Came::Failed(_))),
+        count(|came| matches!(came, Came::Broken(_))),
+        count(|came| matches!(came, Came::Skipped)),
+    );
     let suite = escaped(&format!("pair {} {}", names[0], names[1]));
-    let counts = format!("tests=\"{}\" failures=\"{failures}\" errors=\"0\" skipped=\"{skipped}\"", tests.len());
+    let all = tests.len();
+    let counts = format!("tests=\"{all}\" failures=\"{failures}\" errors=\"{errors}\" skipped=\"{skipped}\"");
     let mut xml = "<?xml version=\"1.0\" encoding=\"UTF-8\"?>\n".to_string();
     let _ = write!(xml, "<testsuites {counts}>\n  <testsuite name=\"{suite}\" {counts}>\n");
     tests.iter().for_each(|test| xml.push_str(&test.xml()));
@@ -145,21 +156,35 @@ pub fn junit(went: &Went, names: &[String; 2]) -> String {
 
 struct Test {
     name: String,
-    failure: Option<String>,
-    skipped: bool,
+    came: Came,
+}
+
+/// What came of a test.
+enum Came {
+    Passed,
+    Skipped,
+    Failed(String),
+    /// What JUnit calls an error: nothing that was tested.
+    Broken(String),
+}
+
+fn of_trouble(why: String) -> Test {
+    Test { name: "pair".to_string(), came: Came::Broken(why) }
 }
 
 impl Test {
     fn xml(&self) -> String {
         let open = format!("    <testcase classname=\"pair\" name=\"{}\"", escaped(&self.name));
-        match &self.failure {
-            None if self.skipped => format!("{open}>\n      <skipped/>\n    </testcase>\n"),
-            None => format!("{open}/>\n"),
-            Some(text) => {
-                let message = escaped(text.lines().next().unwrap_or(""));
-                let text = escaped(text);
-                format!("{open}>\n      <failure message=\"{message}\">{text}</failure>\n    </testcase>\n")
-            }
+        let with = |inside: &str| format!("{open}>\n      {inside}\n    </testcase>\n");
+        let said = |element: &str, text: &str| {
+            let message = escaped(text.lines().next().unwrap_or(""));
+            with(&format!("<{element} message=\"{message}\">{}</{element}>", escaped(text)))
+        };
+        match &self.came {
+            Came::Passed => format!("{open}/>\n"),
+            Came::Skipped => with("<skipped/>"),
+            Came::Failed(text) => said("failure", text),
+            Came::Broken(text) => said("error", text),
         }
     }
 }
@@ -169,15 +194,19 @@ fn of_operations(pairing: &Pairing) -> impl Iterator<Item = Test> + '_ {
     pairing.operations.iter().map(move |operation| {
         let is_its = |gathered: &&Gathered| gathered.found.case.operation.name() == *operation;
         let causes: Vec<String> = pairing.causes.iter().filter(is_its).map(report::of_cause).collect();
-        let failure = (!causes.is_empty()).then(|| causes.join("\n\n"));
-        Test { name: operation.to_string(), failure, skipped: false }
+        let came = if causes.is_empty() { Came::Passed } else { Came::Failed(causes.join("\n\n")) };
+        Test { name: operation.to_string(), came }
     })
 }
 
 fn of_old(pairing: &Pairing) -> impl Iterator<Item = Test> + '_ {
     pairing.old.iter().map(|old| {
-        let failure = (old.state == State::Differs).then(|| format!("{} differs still", old.origin));
-        Test { name: old.origin.to_string(), failure, skipped: old.state == State::LeftOut }
+        let came = match old.state {
+            State::Equal => Came::Passed,
+            State::Differs => Came::Failed(format!("{} differs still", old.origin)),
+            State::LeftOut => Came::Skipped,
+        };
+        Test { name: old.origin.to_string(), came }
     })
 }
 

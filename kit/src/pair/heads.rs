@@ -5,12 +5,13 @@ use super::cause::Cause;
 use super::complaints::Complaints;
 use super::difference::{Compared, Difference, difference};
 use super::process::{Failure, Outcome, Process};
+use super::report::LETTERS;
 use crate::archive::Expander;
-use crate::reading;
+use crate::interrupt;
 use crate::serve::Hello;
-use differential::case::Case;
-use differential::tape::{self, Sort};
-use std::collections::{BTreeMap, VecDeque};
+use differential::case::{Case, Operation};
+use std::collections::VecDeque;
+use std::collections::btree_map::{BTreeMap, Entry};
 use std::ops::Range;
 use std::sync::atomic::{AtomicBool, Ordering};
 use std::time::{Duration, Instant};
@@ -21,14 +22,31 @@ const WINDOW: usize = 64;
 /// After so many cases without an answer in time a pairing that goes on ends: each takes as long as a head may take.
 pub const MOST_HANGS: u64 = 10;
 
+/// Any head is waited for as long as this: more than what else a busy machine does takes.
+const QUICKEST: Duration = Duration::from_millis(100);
+
 pub struct Heads {
     both: [Process; 2],
     pub common: Common,
     expander: Expander,
+    /// The longest time that an answer took.
+    slowest: Duration,
 }
 
 /// A head that does not even say hello, why, and what it wrote to standard error.
 pub type NoHello = (usize, Failure, Complaints);
+
+/// Why no case was asked.
+pub enum NotRun {
+    NoHello(NoHello),
+    Error(String),
+}
+
+impl From<String> for NotRun {
+    fn from(why: String) -> NotRun {
+        NotRun::Error(why)
+    }
+}
 
 /// What both answered, and what they wrote to standard error.
 pub type Said = ([Outcome; 2], [Complaints; 2]);
@@ -37,6 +55,7 @@ pub type Said = ([Outcome; 2], [Complaints; 2]);
 pub struct Seen {
     pub origin: Origin,
     pub case: Case,
+    /// As they are compared: where one of the heads has no weeks, with older tapes as results.
     pub outcomes: [Outcome; 2],
     pub cause: Cause,
     pub difference: Difference,
@@ -50,6 +69,14 @@ impl Seen {
     }
 }
 
+/// The cases in which a cause was seen.
+pub struct Sighted {
+    pub first: Seen,
+    /// The last one, if there are several: where what was asked before matters, it is the one to show it otherwise.
+    pub last: Option<Seen>,
+    pub cases: u64,
+}
+
 /// What came of a run of cases.
 #[derive(Default)]
 pub struct Block {
@@ -57,25 +84,32 @@ pub struct Block {
     pub left_out: u64,
     /// Cases without an answer in time.
     pub hung: u64,
-    /// Of each cause the first case, and how many there are.
-    pub seen: BTreeMap<Cause, (Seen, u64)>,
+    /// The longest time that an answer took.
+    pub slowest: Duration,
+    pub seen: BTreeMap<Cause, Sighted>,
     /// The causes in the order of their first cases.
     pub order: Vec<Cause>,
+    /// Why no more cases can be asked, which no answer shows.
+    pub failed: Option<String>,
 }
 
 impl Block {
     pub fn add(&mut self, seen: Seen) {
         self.hung += u64::from(seen.hangs());
-        let cause = seen.cause;
-        let (_, count) = self.seen.entry(cause).or_insert_with(|| {
-            self.order.push(cause);
-            (seen, 0)
-        });
-        *count += 1;
+        match self.seen.entry(seen.cause) {
+            Entry::Vacant(place) => {
+                self.order.push(seen.cause);
+                place.insert(Sighted { first: seen, last: None, cases: 1 });
+            }
+            Entry::Occupied(mut known) => {
+                let known = known.get_mut();
+                (known.last, known.cases) = (Some(seen), known.cases + 1);
+            }
+        }
     }
 
     pub fn is_over(&self, goes_on: bool) -> bool {
-        self.hung >= MOST_HANGS || (!goes_on && !self.order.is_empty())
+        self.hung >= MOST_HANGS || self.failed.is_some() || (!goes_on && !self.order.is_empty())
     }
 }
 
@@ -87,60 +121,72 @@ impl Heads {
     pub fn start(
         commands: &[String; 2],
         timeout: Duration,
-        only: Option<&[String]>,
-    ) -> Result<Result<(Heads, [Hello; 2]), NoHello>, String> {
+        only: Option<&[Operation]>,
+    ) -> Result<(Heads, [Hello; 2]), NotRun> {
         let mut both = [Process::start(&commands[0], timeout)?, Process::start(&commands[1], timeout)?];
         let mut hellos: [Hello; 2] = Default::default();
         for i in 0..2 {
             match both[i].hello() {
                 Ok(hello) => hellos[i] = hello,
-                Err(failure) => return Ok(Err((i, failure, both[i].complaints()))),
+                Err(failure) => {
+                    interrupt::check()?;
+                    return Err(NotRun::NoHello((i, failure, both[i].complaints())));
+                }
             }
         }
         let common = Common::of(&hellos, only);
         if common.operations.is_empty() {
-            return Err("the two heads have no operation in common".to_string());
+            return Err(NotRun::Error("the two heads have no operation in common".to_string()));
         }
-        Ok(Ok((Heads { both, common, expander: Expander::default() }, hellos)))
+        Ok((Heads { both, common, expander: Expander::default(), slowest: Duration::ZERO }, hellos))
     }
 
     /// Two more of the same heads.
     pub fn again(commands: &[String; 2], timeout: Duration, common: &Common) -> Result<Heads, String> {
-        let both = [Process::start(&commands[0], timeout)?, Process::start(&commands[1], timeout)?];
-        Ok(Heads { both, common: common.clone(), expander: Expander::default() })
+        let mut both = [Process::start(&commands[0], timeout)?, Process::start(&commands[1], timeout)?];
+        both.iter_mut().for_each(Process::greet);
+        Ok(Heads { both, common: common.clone(), expander: Expander::default(), slowest: Duration::ZERO })
     }
 
     fn restart(&mut self) -> Result<(), String> {
         self.both.iter_mut().try_for_each(Process::restart)
     }
 
-    /// Runs the cases at these places, several under way at a time: all of them, or up to the first difference.
+    /// Waits until both are there. That one is not is no finding: nothing was asked of it.
+    fn ready(&mut self) -> Result<(), String> {
+        for (head, letter) in self.both.iter_mut().zip(LETTERS) {
+            head.ready()?.map_err(|failure| match failure {
+                Failure::Hangs(_) => format!("{letter} did not say hello in time when it was started again"),
+                other => format!("{letter} did not say hello when it was started again: it {other}"),
+            })?;
+        }
+        Ok(())
+    }
+
+    /// Runs the cases at these places, several under way at a time: all of them, or up to the first difference. What comes
+    /// of them is put into the block, where it stays if something fails.
     pub fn run(
         &mut self,
         cases: &Cases,
         mut places: Range<u64>,
         goes_on: bool,
         stop: &AtomicBool,
-    ) -> Result<Block, String> {
-        let (mut under_way, mut sent, mut block) = (UnderWay::new(), 0, Block::default());
+        block: &mut Block,
+    ) -> Result<(), String> {
+        let (mut under_way, mut sent) = (UnderWay::new(), 0);
         loop {
-            while sent < WINDOW
-                && let Some(place) = places.next()
-            {
-                let asked = self.send(cases.at(place));
-                sent += usize::from(asked.is_some());
-                under_way.push_back(asked);
-            }
+            self.fill(cases, &mut places, &mut under_way, &mut sent)?;
             while let Some(None) = under_way.front() {
                 under_way.pop_front();
                 block.left_out += 1;
             }
-            if under_way.is_empty() || stop.load(Ordering::Relaxed) {
-                return Ok(block);
+            if under_way.is_empty() || stop.load(Ordering::Relaxed) || interrupt::is_asked() {
+                return Ok(());
             }
-            let outcomes = [0, 1].map(|i| self.both[i].receive());
+            let outcomes = self.receive();
+            block.slowest = self.slowest;
             if outcomes.iter().any(Result::is_err) {
-                self.one_by_one(&mut under_way, outcomes, goes_on, &mut block)?;
+                self.one_by_one(&mut under_way, outcomes, goes_on, block)?;
                 sent = 0;
             } else if let Some(Some((origin, case))) = under_way.pop_front() {
                 sent -= 1;
@@ -148,9 +194,39 @@ impl Heads {
                 self.look(origin, case, outcomes).into_iter().for_each(|seen| block.add(seen));
             }
             if block.is_over(goes_on) {
-                return Ok(block);
+                return Ok(());
             }
         }
+    }
+
+    /// Sends as many cases as may be under way, or as there are.
+    fn fill(
+        &mut self,
+        cases: &Cases,
+        places: &mut Range<u64>,
+        under_way: &mut UnderWay,
+        sent: &mut usize,
+    ) -> Result<(), String> {
+        self.ready()?;
+        while *sent < WINDOW
+            && let Some(place) = places.next()
+        {
+            let asked = self.send(cases.at(place));
+            *sent += usize::from(asked.is_some());
+            under_way.push_back(asked);
+        }
+        Ok(())
+    }
+
+    /// The next answer of each, as the two are compared.
+    fn receive(&mut self) -> [Outcome; 2] {
+        let outcomes = [0, 1].map(|i| {
+            let since = Instant::now();
+            let outcome = self.both[i].receive();
+            self.slowest = if outcome.is_ok() { self.slowest.max(since.elapsed()) } else { self.slowest };
+            outcome
+        });
+        self.common.compared(outcomes)
     }
 
     /// Sends a case to both, if both can take it.
@@ -173,12 +249,16 @@ impl Heads {
     ) -> Result<(), String> {
         let complaints = [0, 1].map(|i| self.both[i].complaints());
         let first = under_way.front().cloned().flatten();
-        let mut again = self.ask_each(under_way, goes_on)?;
+        let mut again = Vec::new();
+        let asked = self.ask_each(under_way, goes_on, &mut again);
         let is_failure = |seen: &Seen| seen.difference == Difference::Failure;
         let fails = again.iter().any(|(_, seen)| seen.as_ref().is_some_and(is_failure));
         if let (false, Some((origin, case))) = (fails, first) {
             let seen = self.look(origin, case, outcomes).map(|seen| Seen { complaints, ..seen });
-            again[0].1 = again[0].1.take().or(seen);
+            match again.first_mut() {
+                Some((_, found)) => *found = found.take().or(seen),
+                None => again.push((true, seen)),
+            }
         }
         for (is_asked, seen) in again {
             block.ran += u64::from(is_asked);
@@ -188,13 +268,18 @@ impl Heads {
                 break;
             }
         }
-        Ok(())
+        asked
     }
 
     /// Of each case whether it was asked, and the difference; up to the first failure, or to the last hang that is waited for.
-    fn ask_each(&mut self, under_way: &mut UnderWay, goes_on: bool) -> Result<Vec<(bool, Option<Seen>)>, String> {
+    fn ask_each(
+        &mut self,
+        under_way: &mut UnderWay,
+        goes_on: bool,
+        again: &mut Vec<(bool, Option<Seen>)>,
+    ) -> Result<(), String> {
         self.restart()?;
-        let (mut again, mut hung) = (Vec::new(), 0);
+        let mut hung = 0;
         for asked in under_way.drain(..) {
             let is_asked = asked.is_some();
             let seen = match asked {
@@ -204,11 +289,11 @@ impl Heads {
             let failed = seen.as_ref().is_some_and(|seen| seen.difference == Difference::Failure);
             hung += u64::from(seen.as_ref().is_some_and(Seen::hangs));
             again.push((is_asked, seen));
-            if (failed && !goes_on) || hung >= MOST_HANGS {
+            if (failed && !goes_on) || hung >= MOST_HANGS || interrupt::is_asked() {
                 break;
             }
         }
-        Ok(again)
+        Ok(())
     }
 
     /// The difference of two outcomes, if there is one.
@@ -220,22 +305,17 @@ impl Heads {
 
     /// Whether the outcomes differ, as far as they are comparable.
     pub fn differ(&self, case: &Case, outcomes: &[Outcome; 2]) -> Option<(Difference, Cause)> {
-        let compared = Compared { counts: self.common.counts };
-        if self.common.weeks == [true; 2] {
-            let found = difference(&outcomes[0], &outcomes[1], compared)?;
-            return Some((found, Cause::of(case.operation, outcomes, found)));
-        }
-        let older = outcomes.clone().map(|outcome| outcome.map(with_older_result));
-        let found = difference(&older[0], &older[1], compared)?;
-        Some((found, Cause::of(case.operation, &older, found)))
+        let found = difference(&outcomes[0], &outcomes[1], Compared { counts: self.common.counts })?;
+        Some((found, Cause::of(case.operation, outcomes, found)))
     }
 
     /// Both outcomes of one case by itself; nothing if it is not in common, or has no older tape for a head that needs one.
     fn ask(&mut self, case: &Case) -> Result<Option<[Outcome; 2]>, String> {
         let Some(sent) = self.common.for_both(case, &mut self.expander) else { return Ok(None) };
+        self.ready()?;
         // Both work at the same time.
         self.both.iter_mut().zip(&sent).for_each(|(head, case)| head.send(case));
-        let outcomes = [0, 1].map(|i| self.both[i].receive());
+        let outcomes = self.receive();
         for (head, outcome) in self.both.iter_mut().zip(&outcomes) {
             if outcome.is_err() {
                 head.restart()?;
@@ -250,8 +330,10 @@ impl Heads {
             return Ok(None);
         }
         let Some([first, second]) = self.common.for_both(case, &mut self.expander) else { return Ok(None) };
+        self.restart()?;
+        self.ready()?;
         let [(a, said_a), (b, said_b)] = [self.both[0].ask_alone(&first)?, self.both[1].ask_alone(&second)?];
-        Ok(Some(([a, b], [said_a, said_b])))
+        Ok(Some((self.common.compared([a, b]), [said_a, said_b])))
     }
 
     /// A smaller case may be one of another operation: of those that both have.
@@ -269,28 +351,14 @@ impl Heads {
         }
     }
 
-    /// Less time for an answer, where each try takes as long as a head may hang: what a head needs to start, several times.
-    pub fn hurry(&mut self) -> Result<(), String> {
-        for head in &mut self.both {
-            head.restart()?;
-            let since = Instant::now();
-            let _ = head.hello();
-            head.timeout = head.timeout.min(4 * since.elapsed() + Duration::from_millis(300));
-            head.restart()?;
-        }
-        Ok(())
+    /// Less time for an answer, where each try takes as long as a head may hang: several times what the slowest took so far.
+    /// An answer that comes later is no difference in the end, since what is found is asked once more with all the time.
+    pub fn hurry(&mut self, slowest: Duration) {
+        let wait = QUICKEST + 4 * slowest.max(self.slowest);
+        self.both.iter_mut().for_each(|head| head.timeout = head.timeout.min(wait));
     }
 
     pub fn wait_for(&mut self, timeout: Duration) {
         self.both.iter_mut().for_each(|head| head.timeout = timeout);
     }
-}
-
-/// The answer with the older tape of its result, for a comparison with a head that knows no weeks.
-fn with_older_result(mut response: crate::response::Response) -> crate::response::Response {
-    let tree = reading::tree(&reading::with_zeros(&response.result), Sort::Any);
-    if let Some(older) = tree.ok().and_then(|tree| tape::older(&tape::withdrawn(&tree))) {
-        response.result = differential::vectors::without_zeros(&tape::encode(&older)).to_vec();
-    }
-    response
 }

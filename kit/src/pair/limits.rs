@@ -5,6 +5,7 @@
 
 use super::plain;
 use super::progress::grouped;
+use super::report::LETTERS;
 use super::run::Found;
 use super::shape::{Part, Shape};
 use crate::commands::result_tree;
@@ -15,7 +16,7 @@ use differential::tape::{LARGEST, LARGEST_CALLS, LARGEST_LITERAL, Node};
 /// Which of the largest figures the smallest case reaches, or is one beyond: in its tapes, and in what was answered.
 pub fn reached(found: &Found) -> Vec<String> {
     let mut lines = of_shape(&found.smallest.shape);
-    for (letter, outcome) in ["A", "B"].iter().zip(&found.outcomes) {
+    for (letter, outcome) in LETTERS.iter().zip(&found.outcomes) {
         let tree = outcome.as_ref().ok().filter(|response| response.number() == 0);
         if let Some(tree) = tree.and_then(|response| result_tree(&response.result)) {
             lines.extend(said(&format!("{letter}'s result"), &figures::of_whole(&tree, false)));

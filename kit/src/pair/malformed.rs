@@ -4,7 +4,7 @@
 //! goes, and parts of it are taken away or hoisted as those of a tree are, whatever stands in them.
 
 use super::simpler;
-use crate::reading::{self, Sections};
+use crate::reading;
 use differential::tape::{self, LARGEST, Node, Sort, Value};
 use std::ops::Range;
 
@@ -35,9 +35,10 @@ impl Flat {
     /// The parts of a tape whose length is the one that its sizes say.
     pub fn of(bytes: &[u8]) -> Option<Flat> {
         let sections = reading::sections(bytes).ok()?;
-        let mut rest = sections.text;
-        let entries = (0..sections.codes.len()).map(|i| entry(sections, i, &mut rest)).collect();
-        Some(Flat { entries, rest: rest.to_vec() })
+        let owned = |entry: reading::Entry| Entry { code: entry.code, value: entry.value, text: entry.text.to_vec() };
+        let entries: Vec<Entry> = sections.entries().map(owned).collect();
+        let taken: usize = entries.iter().map(|entry| entry.text.len()).sum();
+        Some(Flat { entries, rest: sections.text[taken..].to_vec() })
     }
 
     pub fn encode(&self) -> Vec<u8> {
@@ -70,7 +71,7 @@ impl Flat {
     }
 
     /// Without the text that belongs to no entry.
-    pub fn without_rest(&self, _: Range<usize>) -> Flat {
+    pub fn without_rest(&self) -> Flat {
         Flat { entries: self.entries.clone(), rest: vec![] }
     }
 
@@ -96,25 +97,26 @@ impl Flat {
     }
 
     /// What could stand for the part that begins with this entry: the smallest of its sort, parts of it that are of its
-    /// sort, the part with fewer items, and an easier value.
-    pub fn instead(&self, at: usize, root: Sort) -> Vec<Flat> {
-        let extents = self.extents(root);
-        let Some(&Extent { end, sort, .. }) = extents.iter().find(|extent| extent.start == at) else { return vec![] };
-        let inside: Vec<&Extent> = extents.iter().filter(|inner| inner.start > at && inner.end <= end).collect();
+    /// sort, the part with fewer items, and an easier value. The extents are its own, of all parts.
+    pub fn instead(&self, at: usize, extents: &[Extent]) -> Vec<Flat> {
+        let Ok(place) = extents.binary_search_by_key(&at, |extent| extent.start) else { return vec![] };
+        let Extent { end, sort, .. } = extents[place];
+        let inside = &extents[place + 1..];
+        let inside = &inside[..inside.partition_point(|inner| inner.start < end)];
         let node = Node::new(self.entries[at].code, 0, vec![]);
         let least = simpler::smallest(&node, sort).into_iter().map(|tree| flattened(&tree));
         let hoisted = inside.iter().filter(|inner| inner.sort == sort).take(INSIDE);
         let hoisted = hoisted.map(|inner| self.entries[inner.start..inner.end].to_vec());
         let mut found: Vec<Flat> = least.chain(hoisted).map(|entries| self.with(at..end, &entries)).collect();
-        found.extend(self.fewer_items(at, sort, &inside));
+        found.extend(self.fewer_items(at, sort, inside));
         found.extend(self.easier(at));
         found
     }
 
     /// Without one item, or without all of them, as many as the entry counts.
-    fn fewer_items(&self, at: usize, sort: Sort, inside: &[&Extent]) -> Vec<Flat> {
+    fn fewer_items(&self, at: usize, sort: Sort, inside: &[Extent]) -> Vec<Flat> {
         let (entry, width) = (&self.entries[at], tape::item(sort, self.entries[at].code).len());
-        let children: Vec<&&Extent> = inside.iter().filter(|inner| inner.parent == at).collect();
+        let children: Vec<&Extent> = inside.iter().filter(|inner| inner.parent == at).collect();
         if width == 0 || tape::value(entry.code) != Value::Count {
             return vec![];
         }
@@ -148,8 +150,9 @@ impl Flat {
         }
     }
 
-    /// Where the parts of the tree begin and end, as far as the entries are one; each with the sort that is wanted there.
-    fn extents(&self, root: Sort) -> Vec<Extent> {
+    /// Where the parts of the tree begin and end, as far as the entries are one, in the order in which they begin; each with
+    /// the sort that is wanted there.
+    pub fn extents(&self, root: Sort) -> Vec<Extent> {
         let mut found = Vec::new();
         self.extent(0, root, usize::MAX, &mut found);
         found.sort_by_key(|extent| extent.start);
@@ -181,24 +184,12 @@ impl Flat {
 
 /// A part of the tree that the entries are.
 #[derive(Clone, Copy, Debug)]
-struct Extent {
+pub struct Extent {
     start: usize,
     end: usize,
     sort: Sort,
     /// The entry that it belongs to.
     parent: usize,
-}
-
-/// An entry with its text, which is taken from what is left of the texts.
-fn entry(sections: Sections, i: usize, rest: &mut &[u8]) -> Entry {
-    let (code, value) = (sections.codes[i], sections.value(i));
-    let length = match tape::value(code) {
-        Value::TextLength => usize::try_from(value).unwrap_or(usize::MAX).min(rest.len()),
-        _ => 0,
-    };
-    let (text, behind) = rest.split_at(length);
-    *rest = behind;
-    Entry { code, value, text: text.to_vec() }
 }
 
 fn flattened(tree: &Node) -> Vec<Entry> {

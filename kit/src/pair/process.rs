@@ -1,23 +1,29 @@
 //! A head that runs as a program of its own. Whatever it does, hang, die or send garbage, is an answer here.
 
 use super::complaints::Complaints;
+use super::keeper::{Keeper, MOMENT, end_of};
 use crate::protocol;
 use crate::response::Response;
 use crate::serve::Hello;
 use differential::case::Case;
-use std::io::{BufReader, Read, Write};
-use std::os::unix::process::CommandExt;
-use std::process::{Child, ChildStdin, ChildStdout, Command, Stdio};
-use std::sync::mpsc::{Receiver, RecvTimeoutError, Sender, channel};
+use std::convert::Infallible;
+use std::io::{BufReader, ErrorKind, Read, Write};
+use std::os::unix::process::{CommandExt, ExitStatusExt};
+use std::process::{ChildStdin, ChildStdout, Command, ExitStatus, Stdio};
+use std::sync::mpsc::{Receiver, RecvTimeoutError, Sender, SyncSender, channel, sync_channel};
 use std::sync::{Arc, Mutex};
-use std::thread::{self, JoinHandle};
+use std::thread;
 use std::time::Duration;
 
 /// Something else than an answer.
 #[derive(Clone, Debug, PartialEq, Eq)]
 pub enum Failure {
     Hangs(Duration),
-    Dies(String),
+    /// Its output ended: how the program ended, if it did so in a moment, and whether it was in the middle of an answer.
+    Dies {
+        status: Option<ExitStatus>,
+        amid_answer: bool,
+    },
     Garbage(String),
 }
 
@@ -25,19 +31,36 @@ impl std::fmt::Display for Failure {
     fn fmt(&self, f: &mut std::fmt::Formatter) -> std::fmt::Result {
         match self {
             Failure::Hangs(time) => write!(f, "hangs: no answer within {} s", time.as_secs_f32()),
-            Failure::Dies(how) => write!(f, "dies: {how}"),
+            Failure::Dies { status, amid_answer } => {
+                match status {
+                    Some(status) => write!(f, "dies: {status}{}", signal(*status))?,
+                    None => f.write_str("dies: its output is closed")?,
+                }
+                f.write_str(if *amid_answer { "; in the middle of an answer" } else { "" })
+            }
             Failure::Garbage(what) => write!(f, "answers garbage: {what}"),
         }
     }
 }
 
-impl Failure {
-    /// Whether the shell found no such program, or none that it may start.
-    pub fn is_missing(&self) -> bool {
-        let missing = ["exit status: 126", "exit status: 127"];
-        matches!(self, Failure::Dies(how) if missing.contains(&how.as_str()))
+/// Of a program that a signal has ended its shell says so by a status: 128 and the signal's number.
+fn signal(status: ExitStatus) -> String {
+    match status.code() {
+        Some(code @ 129..=192) => format!(", which stands for {}", ExitStatus::from_raw(code - 128)),
+        _ => String::new(),
     }
 }
+
+impl Failure {
+    /// Whether the shell found no such program, or none that it may start: then it ends with one of these.
+    pub fn is_missing(&self) -> bool {
+        let Failure::Dies { status: Some(status), .. } = self else { return false };
+        matches!(status.code(), Some(126 | 127))
+    }
+}
+
+/// The end of a head's output, before it is known how the program ended.
+const ENDED: Failure = Failure::Dies { status: None, amid_answer: false };
 
 pub type Outcome = Result<Response, Failure>;
 
@@ -48,35 +71,72 @@ pub struct Process {
     next_id: u32,
     /// The ids of the requests that have no answer yet, oldest first.
     waiting: std::collections::VecDeque<u32>,
+    /// How long it is waited for when it is started again.
+    patience: Duration,
+    /// Whether it was started again, and has not been waited for.
+    is_starting: bool,
 }
+
+/// So many answers may wait to be looked at, more than are ever asked for. A head that sends without end is not read on.
+const MOST_WAITING: usize = 256;
 
 /// What comes from a head: a response's body, or how the stream ended.
 type Incoming = Result<Vec<u8>, Failure>;
 
 struct Running {
-    child: Child,
-    keeper: Child,
+    keeper: Keeper,
+    ended: Receiver<ExitStatus>,
+    /// How it ended, once that was told.
+    status: Option<ExitStatus>,
     /// Until it is told that there are no more.
     requests: Option<Sender<Vec<u8>>>,
     responses: Receiver<Incoming>,
     complaints: Arc<Mutex<Complaints>>,
-    /// Reads what it writes to standard error, as long as it does.
-    complaining: JoinHandle<()>,
+    /// Closed once its standard error is, and all of that has been read.
+    complaining: Receiver<Infallible>,
 }
 
 impl Process {
     /// Starts a command, as the shell reads it.
     pub fn start(command: &str, timeout: Duration) -> Result<Process, String> {
-        let running = Running::start(command)?;
-        Ok(Process { command: command.to_string(), timeout, running, next_id: 1, waiting: Default::default() })
+        let (command, running, patience) = (command.to_string(), Running::start(command)?, 3 * timeout);
+        let waiting = Default::default();
+        Ok(Process { command, timeout, running, next_id: 1, waiting, patience, is_starting: false })
     }
 
     /// Ends it and starts it again, after a failure.
     pub fn restart(&mut self) -> Result<(), String> {
-        self.running.end();
+        self.running.keeper.end();
         self.running = Running::start(&self.command)?;
         self.waiting.clear();
+        self.greet();
         Ok(())
+    }
+
+    /// Asks for a hello, so that the time which it takes to start is not taken for that of an answer.
+    pub fn greet(&mut self) {
+        let id = self.take_id();
+        self.put(protocol::hello(id));
+        self.is_starting = true;
+    }
+
+    /// Waits until it has said hello, if it was started again; once more if it does not.
+    pub fn ready(&mut self) -> Result<Result<(), Failure>, String> {
+        if !self.is_starting {
+            return Ok(Ok(()));
+        }
+        if self.greeted().is_err() {
+            self.restart()?;
+            return Ok(self.greeted());
+        }
+        Ok(Ok(()))
+    }
+
+    fn greeted(&mut self) -> Result<(), Failure> {
+        let timeout = std::mem::replace(&mut self.timeout, self.patience);
+        let said = self.receive();
+        (self.timeout, self.is_starting) = (timeout, said.is_err());
+        said.map(drop)
     }
 
     pub fn send(&mut self, case: &Case) {
@@ -103,7 +163,7 @@ impl Process {
             Ok(Ok(body)) => body,
             Ok(Err(failure)) => return Err(self.running.with_status(failure)),
             Err(RecvTimeoutError::Timeout) => return Err(Failure::Hangs(self.timeout)),
-            Err(RecvTimeoutError::Disconnected) => return Err(self.running.with_status(Failure::Dies(String::new()))),
+            Err(RecvTimeoutError::Disconnected) => return Err(self.running.with_status(ENDED)),
         };
         let (id, response) = protocol::read_response(&body).map_err(Failure::Garbage)?;
         if id != wanted {
@@ -122,9 +182,8 @@ impl Process {
         Ok(outcome)
     }
 
-    /// One case asked of it just started, and what it wrote to standard error from its start to its end.
+    /// One case asked of it, as it was just started, and what it wrote to standard error from its start to its end.
     pub fn ask_alone(&mut self, case: &Case) -> Result<(Outcome, Complaints), String> {
-        self.restart()?;
         self.send(case);
         let outcome = self.receive();
         let complaints = self.running.all_complaints();
@@ -145,55 +204,41 @@ impl Process {
     }
 }
 
-impl Drop for Process {
-    fn drop(&mut self) {
-        self.running.end();
-    }
-}
-
 impl Running {
     fn start(command: &str) -> Result<Running, String> {
+        let keeper = Keeper::start().map_err(|e| format!("sh: {e}"))?;
         let mut child = Command::new("sh")
-            .args(["-c", &format!("exec {command}")])
+            .args(["-c", "--", command])
             .stdin(Stdio::piped())
             .stdout(Stdio::piped())
             .stderr(Stdio::piped())
-            .process_group(0)
+            .process_group(keeper.group())
             .spawn()
             .map_err(|e| format!("{command}: {e}"))?;
-        let keeper = keeper(child.id()).map_err(|e| {
-            let _ = child.kill();
-            format!("sh: {e}")
-        })?;
         let (requests, to_write) = channel();
-        let (received, responses) = channel();
+        let (received, responses) = sync_channel(MOST_WAITING);
+        let (complains, complaining) = channel();
         let complaints = Arc::new(Mutex::new(Complaints::default()));
         let (stdin, stdout) = (child.stdin.take().expect("piped"), child.stdout.take().expect("piped"));
         let (stderr, kept) = (child.stderr.take().expect("piped"), complaints.clone());
         thread::spawn(move || write_all(stdin, &to_write));
         thread::spawn(move || read_all(stdout, &received));
-        let complaining = thread::spawn(move || keep(stderr, &kept));
-        Ok(Running { child, keeper, requests: Some(requests), responses, complaints, complaining })
-    }
-
-    /// Ends it, and whatever it has started.
-    fn end(&mut self) {
-        drop(self.keeper.stdin.take());
-        let _ = self.keeper.wait();
-        let _ = self.child.kill();
-        let _ = self.child.wait();
+        thread::spawn(move || {
+            keep(stderr, &kept);
+            drop::<Sender<Infallible>>(complains);
+        });
+        let (ended, requests) = (end_of(child), Some(requests));
+        Ok(Running { keeper, ended, status: None, requests, responses, complaints, complaining })
     }
 
     /// For a stream that ended: how the program ended. It has closed its output; it is given a moment to end.
     fn with_status(&mut self, failure: Failure) -> Failure {
-        let Failure::Dies(how) = failure else { return failure };
-        let status = in_a_moment(|| self.child.try_wait().ok().flatten());
-        if status.is_some() {
+        let Failure::Dies { amid_answer, .. } = failure else { return failure };
+        self.status = self.status.or_else(|| self.ended.recv_timeout(MOMENT).ok());
+        if self.status.is_some() {
             self.wait_for_complaints();
         }
-        let status = status.map_or("its output is closed".to_string(), |status| status.to_string());
-        let parts = [status, how].into_iter().filter(|part| !part.is_empty());
-        Failure::Dies(parts.collect::<Vec<_>>().join("; "))
+        Failure::Dies { status: self.status, amid_answer }
     }
 
     fn complaints(&self) -> Complaints {
@@ -209,27 +254,8 @@ impl Running {
 
     /// What a program wrote before it ended has a moment to be read.
     fn wait_for_complaints(&self) {
-        in_a_moment(|| self.complaining.is_finished().then_some(()));
+        let _ = self.complaining.recv_timeout(MOMENT);
     }
-}
-
-/// A shell that ends a group of processes as soon as its own input is closed: by the kit, or by whatever ends the kit. A
-/// head that hangs does not outlive the kit, nor what such a head has started.
-fn keeper(group: u32) -> std::io::Result<Child> {
-    let mut command = Command::new("sh");
-    command.args(["-c", "read -r line; kill -KILL \"-$0\"", &group.to_string()]);
-    command.stdin(Stdio::piped()).stdout(Stdio::null()).stderr(Stdio::null()).process_group(0).spawn()
-}
-
-/// What comes of asking again and again for half a second, if something does.
-fn in_a_moment<T>(mut ask: impl FnMut() -> Option<T>) -> Option<T> {
-    (0..250).find_map(|_| {
-        let answer = ask();
-        if answer.is_none() {
-            thread::sleep(Duration::from_millis(2));
-        }
-        answer
-    })
 }
 
 /// Writes requests until there are no more, or nobody reads them. Those that wait go out together.
@@ -242,15 +268,13 @@ fn write_all(mut stdin: ChildStdin, requests: &Receiver<Vec<u8>>) {
     }
 }
 
-fn read_all(stdout: ChildStdout, received: &Sender<Incoming>) {
+fn read_all(stdout: ChildStdout, received: &SyncSender<Incoming>) {
     let mut stdout = BufReader::with_capacity(1 << 16, stdout);
     loop {
         let incoming = match protocol::read_frame(&mut stdout) {
             Ok(Some(body)) => Ok(body),
-            Ok(None) => Err(Failure::Dies(String::new())),
-            Err(e) if e.kind() == std::io::ErrorKind::UnexpectedEof => {
-                Err(Failure::Dies("in the middle of an answer".to_string()))
-            }
+            Ok(None) => Err(ENDED),
+            Err(e) if e.kind() == ErrorKind::UnexpectedEof => Err(Failure::Dies { status: None, amid_answer: true }),
             Err(e) => Err(Failure::Garbage(e.to_string())),
         };
         let is_last = incoming.is_err();
@@ -262,7 +286,12 @@ fn read_all(stdout: ChildStdout, received: &Sender<Incoming>) {
 
 fn keep(mut stderr: impl Read, kept: &Mutex<Complaints>) {
     let mut bytes = [0; 4096];
-    while let Ok(n @ 1..) = stderr.read(&mut bytes) {
+    loop {
+        let n = match stderr.read(&mut bytes) {
+            Err(e) if e.kind() == ErrorKind::Interrupted => continue,
+            Ok(0) | Err(_) => return,
+            Ok(n) => n,
+        };
         let Ok(mut kept) = kept.lock() else { return };
         kept.add(&bytes[..n]);
     }

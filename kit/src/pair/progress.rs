@@ -8,18 +8,18 @@ use std::time::{Duration, Instant};
 pub struct Progress {
     total: u64,
     since: Instant,
-    last: Instant,
+    /// When something was shown last.
+    last: Option<Instant>,
     on_terminal: bool,
     quiet: bool,
 }
 
 impl Progress {
     pub fn new(total: u64, quiet: bool) -> Progress {
-        let now = Instant::now();
-        Progress { total, since: now, last: now, on_terminal: std::io::stderr().is_terminal(), quiet }
+        Progress { total, since: Instant::now(), last: None, on_terminal: std::io::stderr().is_terminal(), quiet }
     }
 
-    /// Twice a second on a terminal. A file or another program is not told.
+    /// At once, and then twice a second, on a terminal. A file or another program is not told.
     pub fn show(&mut self, done: u64) {
         self.put(|progress| line(done, progress.total, progress.since.elapsed()));
     }
@@ -31,10 +31,11 @@ impl Progress {
     }
 
     fn put(&mut self, line: impl Fn(&Progress) -> String) {
-        if self.quiet || !self.on_terminal || self.last.elapsed() < Duration::from_millis(500) {
+        let is_recent = self.last.is_some_and(|last| last.elapsed() < Duration::from_millis(500));
+        if self.quiet || !self.on_terminal || is_recent {
             return;
         }
-        self.last = Instant::now();
+        self.last = Some(Instant::now());
         let _ = write!(std::io::stderr(), "\r{}\x1B[K", line(self));
     }
 
@@ -48,8 +49,12 @@ impl Progress {
 }
 
 fn line(done: u64, total: u64, time: Duration) -> String {
+    if done == 0 {
+        return format!("0 of {} cases", grouped(total));
+    }
     let rate = done as f64 / time.as_secs_f64().max(0.001);
-    let left = Duration::from_secs_f64((total.saturating_sub(done)) as f64 / rate.max(0.001));
+    let left = total.saturating_sub(done) as f64 / rate.max(0.001);
+    let left = Duration::try_from_secs_f64(left).unwrap_or(Duration::MAX);
     format!("{} of {} cases, {} a second, {} left", grouped(done), grouped(total), grouped(rate as u64), clock(left))
 }
 
@@ -72,6 +77,14 @@ pub fn clock(time: Duration) -> String {
 #[cfg(test)]
 mod tests {
     use super::*;
+
+    /// However many cases there are and however slowly they go.
+    #[test]
+    fn a_line_is_there_at_once() {
+        assert_eq!(line(0, 5_000, Duration::ZERO), "0 of 5,000 cases");
+        let never = "1 of 18,446,744,073,709,551,615 cases, 0 a second, 5124095576030431 h 0 min left";
+        assert_eq!(line(1, u64::MAX, Duration::from_secs(50)), never);
+    }
 
     #[test]
     fn lines_are_read_easily() {

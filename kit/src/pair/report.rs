@@ -1,20 +1,21 @@
 //! A pairing in words: what ran, and the differences as rules. It says nothing of time, so that it is the same wherever and
 //! in how many jobs the cases were run.
 
+use super::cases::older;
 use super::complaints::Complaints;
 use super::difference::{Difference, first_entry};
-use super::heads::NoHello;
+use super::heads::{NoHello, NotRun};
 use super::limits;
 use super::process::Outcome;
 use super::progress::grouped;
-use super::run::{Found, Gathered, Pairing, State, Went};
+use super::run::{Found, Gathered, Pairing, State, Status, Went, status};
 use super::shape::shortened;
-use crate::archive::{self, Expander, Who};
+use crate::archive::{Expander, Who};
 use crate::commands::result_text;
 use crate::numbers;
 use crate::reading;
 use crate::response::Response;
-use differential::case::Case;
+use differential::case::{Case, Operation};
 
 pub const LETTERS: [&str; 2] = ["A", "B"];
 
@@ -22,12 +23,32 @@ pub const LETTERS: [&str; 2] = ["A", "B"];
 pub fn text(went: &Went, names: &[String; 2]) -> String {
     match went {
         Ok(pairing) => of_pairing(pairing, names),
-        Err(no_hello) => of_no_hello(no_hello, names),
+        Err(not_run) => of_not_run(not_run, names),
+    }
+}
+
+/// What a user has to be told where the status says neither that the heads are equal nor that they differ.
+pub fn trouble(went: &Went, names: &[String; 2]) -> Option<String> {
+    match went {
+        _ if status(went) != Status::Trouble => None,
+        Ok(pairing) => pairing.ended.as_ref().map(ToString::to_string),
+        Err(not_run) => Some(of_not_run(not_run, names)),
+    }
+}
+
+/// Why no case was asked.
+pub fn of_not_run(not_run: &NotRun, names: &[String; 2]) -> String {
+    match not_run {
+        NotRun::Error(why) => why.clone(),
+        NotRun::NoHello((i, failure, complaints)) if failure.is_missing() => {
+            format!("{}, `{}`, cannot be started: {}", LETTERS[*i], names[*i], complaints.text())
+        }
+        NotRun::NoHello(no_hello) => of_no_hello(no_hello, names),
     }
 }
 
 /// Which head does not say hello, and all that it wrote.
-pub fn of_no_hello((i, failure, complaints): &NoHello, names: &[String; 2]) -> String {
+fn of_no_hello((i, failure, complaints): &NoHello, names: &[String; 2]) -> String {
     let said = format!("{} ({}) does not say hello: it {failure}", LETTERS[*i], names[*i]);
     match complaints.one_line() {
         Some(line) => format!("{said}; {line}"),
@@ -38,6 +59,7 @@ pub fn of_no_hello((i, failure, complaints): &NoHello, names: &[String; 2]) -> S
 fn of_pairing(pairing: &Pairing, names: &[String; 2]) -> String {
     let head = |i: usize| format!("{} is {} ({})", LETTERS[i], names[i], pairing.hellos[i].name);
     let mut lines = vec![head(0), head(1)];
+    lines.extend(pairing.note.clone());
     lines.extend(old_cases(pairing));
     lines.push(summary(pairing));
     lines.extend(pairing.ended.iter().map(|why| format!("It ended behind these: {why}.")));
@@ -95,7 +117,10 @@ pub fn counted(n: u64, what: &str) -> String {
 
 /// How many cases show a cause, and as what.
 fn cases(gathered: &Gathered) -> Vec<String> {
-    let mut lines = vec![format!("{}, the first is {}", counted(gathered.cases(), "case"), gathered.found.origin)];
+    let (first, shown) = (gathered.first(), &gathered.found.origin);
+    let by_itself =
+        if first == shown { String::new() } else { format!("; the first that shows it by itself is {shown}") };
+    let mut lines = vec![format!("{}, the first is {first}{by_itself}", counted(gathered.cases(), "case"))];
     if gathered.seen.iter().any(|(cause, ..)| *cause != gathered.cause) {
         let as_seen = |(cause, origin, n): &_| format!("    {} as {cause}; {origin}", counted(*n, "case"));
         lines.extend(gathered.seen.iter().map(as_seen));
@@ -106,6 +131,7 @@ fn cases(gathered: &Gathered) -> Vec<String> {
 fn difference(found: &Found) -> String {
     let shape = &found.smallest.shape;
     let mut lines = Vec::new();
+    lines.extend(found.unexamined.iter().map(|why| format!("It is told as it was found: {why}.")));
     if found.needs_history {
         lines.push("Asked for by itself the case shows no difference: what was asked before it matters.".to_string());
     }
@@ -119,11 +145,14 @@ fn difference(found: &Found) -> String {
     });
     lines.push(indented(&shape.readable()));
     lines.extend(limits::reached(found).into_iter().map(|figure| format!("a largest figure: {figure}")));
+    if found.by_older {
+        lines.push("One of the two has no weeks: results are shown and judged as their older tapes.".to_string());
+    }
     for (letter, outcome) in LETTERS.iter().zip(&found.outcomes) {
         lines.push(format!("{letter}: {}", answered(outcome)));
     }
     lines.push(format!("the difference: {}", what_differs(found)));
-    lines.extend(judged(&shape.case(), &found.outcomes));
+    lines.extend(judged(found));
     for (letter, complaints) in LETTERS.iter().zip(&found.complaints) {
         lines.extend(wrote(letter, complaints));
     }
@@ -151,11 +180,7 @@ pub fn answered(outcome: &Outcome) -> String {
         }
         Ok(response) => {
             let (start, end) = response.span();
-            let number = response.number();
-            let said = match &response.message[..] {
-                [] => numbers::meaning(number).to_string(),
-                message => String::from_utf8_lossy(message).to_string(),
-            };
+            let (number, said) = (response.number(), response.said());
             format!("refused with {number} at {start}..{end}, {} charged: {said}", response.charged())
         }
     }
@@ -184,24 +209,26 @@ pub fn what_differs(found: &Found) -> String {
 }
 
 /// What `judge` says of each result of an expansion.
-fn judged(case: &Case, outcomes: &[Outcome; 2]) -> Vec<String> {
-    if case.operation.name() != "expand" {
+fn judged(found: &Found) -> Vec<String> {
+    let case = found.smallest.shape.case();
+    if case.operation != Operation::Expand {
         return vec![];
     }
-    let Ok(operation) = archive::operation("judge") else {
-        return vec!["judge: neither the archive nor the model of this checkout has it".to_string()];
-    };
     let mut expander = Expander::default();
-    let who = if expander.who(operation) == Who::Archive { "judge" } else { "judge (the model, not the archive)" };
+    // An older result is judged beside the older tapes that it was made of.
+    let asked_for = if found.by_older { older(&case, &mut expander) } else { Some(case) };
+    let Some(case) = asked_for else { return vec![] };
+    let who =
+        if expander.who(Operation::Judge) == Who::Archive { "judge" } else { "judge (the model, not the archive)" };
     let mut verdict = |letter: &str, response: &Response| {
         let mut tapes = case.tapes.clone();
         tapes.push(reading::with_zeros(&response.result));
-        let mut asked = Case::new(operation, case.limit, tapes);
+        let mut asked = Case::new(Operation::Judge, case.limit, tapes);
         asked.file = case.file;
         let number = expander.answer(&asked).number();
         format!("{who} of {letter}: {number}, {}", if number == 0 { "equal to ours" } else { numbers::meaning(number) })
     };
     let succeeded =
-        LETTERS.into_iter().zip(outcomes).filter_map(|(letter, outcome)| Some((letter, outcome.as_ref().ok()?)));
+        LETTERS.into_iter().zip(&found.outcomes).filter_map(|(letter, outcome)| Some((letter, outcome.as_ref().ok()?)));
     succeeded.filter(|(_, r)| r.number() == 0).map(|(letter, response)| verdict(letter, response)).collect()
 }

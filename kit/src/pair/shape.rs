@@ -4,7 +4,7 @@ use super::malformed;
 use super::progress::grouped;
 use crate::notation::{self, Rule, Spans};
 use crate::reading::{self, Sections};
-use differential::case::{COUNTS, Case, Operation};
+use differential::case::{self, COUNTS, Case, Operation};
 use differential::tape::{self, Node, Sort};
 
 #[derive(Clone, Debug, PartialEq, Eq)]
@@ -60,11 +60,12 @@ impl Shape {
         self.parts.iter().filter(|part| part.tree().is_none()).count()
     }
 
-    /// The same with another tree for one of its parts.
-    pub fn with(&self, part: usize, tree: Node) -> Shape {
-        let mut shape = self.clone();
-        shape.parts[part] = Part::Tree(tree);
-        shape
+    /// The same with another one for one of its parts.
+    pub fn with(&self, part: usize, other: Part) -> Shape {
+        let mut parts = self.parts[..part].to_vec();
+        parts.push(other);
+        parts.extend_from_slice(&self.parts[part + 1..]);
+        Shape { case: self.case.clone(), parts }
     }
 
     /// The same with each of its trees edited.
@@ -140,8 +141,8 @@ impl Shape {
         line(case.operation.charges() && case.limit != u32::MAX, format!("limit {}", case.limit));
         line(case.file != 0, format!("file {}", case.file));
         line(case.index != 0, format!("// index {}", case.index));
-        let used = case.counts.iter().rposition(|count| *count != 0).map_or(0, |last| last + 1);
-        line(used > 0, format!("// counts {:?}", &case.counts[..used.min(8)]));
+        let used = case::used(&case.counts);
+        line(!used.is_empty(), format!("// counts {:?}", &used[..used.len().min(8)]));
         line(case.sizes != case.operation.buffers(), format!("// buffers {:?}", case.sizes));
         lines
     }
@@ -175,6 +176,14 @@ impl Part {
     pub fn of(bytes: Vec<u8>, root: Option<&Sort>) -> Part {
         let tree = root.and_then(|root| reading::tree(&bytes, *root).ok());
         tree.map_or_else(|| Part::Bytes(bytes), Part::Tree)
+    }
+
+    /// What is no tree.
+    pub fn bytes(&self) -> Option<&[u8]> {
+        match self {
+            Part::Bytes(bytes) => Some(bytes),
+            Part::Tree(_) => None,
+        }
     }
 
     pub fn tree(&self) -> Option<&Node> {

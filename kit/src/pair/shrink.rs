@@ -58,6 +58,9 @@ enum Goal {
 /// What makes one case smaller than another: the figures of the goal, and then the length of its text.
 type Cost = ([usize; 3], usize);
 
+/// What a part may become.
+type Others<'a> = Box<dyn Iterator<Item = Part> + 'a>;
+
 /// Other bytes for some, of which a range is edited: of entries or of bytes.
 type Edit<'a> = dyn Fn(&[u8], Range<usize>) -> Vec<u8> + 'a;
 
@@ -176,26 +179,51 @@ impl Shrinker<'_> {
         }
     }
 
-    /// From the root on, every place by what could stand there instead.
+    /// From the root on, every place of a tree.
     fn tree(&mut self, part: usize) -> Result<(), String> {
-        let root = self.best.case.operation.roots().get(part).copied().unwrap_or(Sort::Any);
-        let mut place = 0;
+        let root = self.root(part).copied().unwrap_or(Sort::Any);
+        let seen = |part: &Part| part.tree().map(|tree| (tree.clone(), simpler::places(tree, root)));
+        self.each_place(part, &seen, &|(tree, places), place| {
+            let (path, sort) = places.get(place)?;
+            let others = simpler::instead(simpler::at(tree, path), *sort).into_iter();
+            Some(Box::new(others.map(move |other| Part::Tree(simpler::replaced(tree, path, other)))))
+        })
+    }
+
+    /// From the first place of a part on, each by what could stand there instead. What has to be seen of the part for that
+    /// is looked at again only when something smaller was found.
+    fn each_place<S>(
+        &mut self,
+        part: usize,
+        seen: &dyn Fn(&Part) -> Option<S>,
+        instead: &dyn Fn(&S, usize) -> Option<Others<'_>>,
+    ) -> Result<(), String> {
+        let (mut place, mut own) = (0, seen(&self.best.parts[part]));
         loop {
-            let Part::Tree(tree) = self.best.parts[part].clone() else { return Ok(()) };
-            let places = simpler::places(&tree, root);
-            let Some((path, sort)) = places.get(place) else { return Ok(()) };
-            let mut found = false;
-            for other in simpler::instead(simpler::at(&tree, path), *sort) {
-                if self.consider(self.best.with(part, simpler::replaced(&tree, path, other)))? {
-                    found = true;
-                    break;
-                }
+            let Some(others) = own.as_ref().and_then(|own| instead(own, place)) else { return Ok(()) };
+            match self.any_of(part, others)? {
+                true => own = seen(&self.best.parts[part]),
+                false => place += 1,
             }
-            place += usize::from(!found);
             if self.is_spent() {
                 return Ok(());
             }
         }
+    }
+
+    /// Takes the first of these for a part that will do.
+    fn any_of(&mut self, part: usize, others: Others) -> Result<bool, String> {
+        for other in others {
+            if self.consider(self.best.with(part, other))? {
+                return Ok(true);
+            }
+        }
+        Ok(false)
+    }
+
+    /// The sort that the operation wants a part's root to have.
+    fn root(&self, part: usize) -> Option<&'static Sort> {
+        self.best.case.operation.roots().get(part)
     }
 
     /// A parameter goes with the arguments that are given for it; or one of these goes to where it stands in the body.
@@ -333,13 +361,19 @@ impl Shrinker<'_> {
             self.pieces(part, &|bytes| Some(bytes.len()), &malformed::without_bytes)?;
             return self.pieces(part, &|bytes| Some(bytes.len()), &malformed::zeroed);
         }
-        let entries = |bytes: &[u8]| Flat::of(bytes).map(|flat| flat.len());
-        let edits: [fn(&Flat, Range<usize>) -> Flat; 4] = [Flat::without, Flat::without_rest, Flat::plain, Flat::wild];
-        for edit in edits {
-            let edited = |bytes: &[u8], range| Flat::of(bytes).map_or(vec![], |flat| edit(&flat, range).encode());
-            self.pieces(part, &entries, &edited)?;
+        self.entry_pieces(part, Flat::without)?;
+        if let Some(flat) = Flat::of(self.bytes_of(part)) {
+            self.put(part, flat.without_rest().encode())?;
         }
+        self.entry_pieces(part, Flat::plain)?;
+        self.entry_pieces(part, Flat::wild)?;
         self.entries(part)
+    }
+
+    /// Edits pieces of a tape's entries.
+    fn entry_pieces(&mut self, part: usize, edit: fn(&Flat, Range<usize>) -> Flat) -> Result<(), String> {
+        let edited = |bytes: &[u8], range| Flat::of(bytes).map_or(vec![], |flat| edit(&flat, range).encode());
+        self.pieces(part, &|bytes| Flat::of(bytes).map(|flat| flat.len()), &edited)
     }
 
     /// Edits pieces of what a part has so many of, large ones first, each size from the end on.
@@ -356,39 +390,27 @@ impl Shrinker<'_> {
         Ok(())
     }
 
-    /// From the first entry on, every part of the tree that the entries are as far as they are one, by what could stand
-    /// there instead.
+    /// From the first entry on, every part of the tree that the entries are as far as they are one.
     fn entries(&mut self, part: usize) -> Result<(), String> {
-        let root = self.best.case.operation.roots().get(part).copied().unwrap_or(Sort::Any);
-        let mut place = 0;
-        while let Some(flat) = Flat::of(self.bytes_of(part)).filter(|flat| place < flat.len()) {
-            let mut found = false;
-            for other in flat.instead(place, root) {
-                if self.put(part, other.encode())? {
-                    found = true;
-                    break;
-                }
-            }
-            place += usize::from(!found);
-            if self.is_spent() {
-                return Ok(());
-            }
-        }
-        Ok(())
+        let root = self.root(part);
+        let seen = |part: &Part| {
+            let flat = part.bytes().and_then(Flat::of)?;
+            let extents = flat.extents(root.copied().unwrap_or(Sort::Any));
+            Some((flat, extents))
+        };
+        self.each_place(part, &seen, &|(flat, extents), place| {
+            let others = (place < flat.len()).then(|| flat.instead(place, extents).into_iter())?;
+            Some(Box::new(others.map(move |other| Part::of(other.encode(), root))))
+        })
     }
 
     /// The bytes of a part that is no tree; none of one that is.
     fn bytes_of(&self, part: usize) -> &[u8] {
-        match &self.best.parts[part] {
-            Part::Bytes(bytes) => bytes,
-            Part::Tree(_) => &[],
-        }
+        self.best.parts[part].bytes().unwrap_or_default()
     }
 
     fn put(&mut self, part: usize, bytes: Vec<u8>) -> Result<bool, String> {
-        let mut shape = self.best.clone();
-        shape.parts[part] = Part::of(bytes, self.best.case.operation.roots().get(part));
-        self.consider(shape)
+        self.consider(self.best.with(part, Part::of(bytes, self.root(part))))
     }
 }
 
@@ -600,8 +622,22 @@ mod tests {
             is_refused_but_for(case, without_last)
         });
         assert!(large.entries() > 8 && small.entries() <= 8, "{}: {}", large.entries(), small.readable());
-        let (large, small) = smallest_malformed(|case| is_refused_but_for(case, |flat| flat.without_rest(0..0)));
+        let (large, small) = smallest_malformed(|case| is_refused_but_for(case, Flat::without_rest));
         assert!(large.entries() > 8 && small.entries() <= 8, "{}: {}", large.entries(), small.readable());
+    }
+
+    /// It goes as a whole, or not at all: of many entries not one makes that another question.
+    #[test]
+    fn what_is_left_over_is_tried_once() {
+        let sizes = [60, 2].map(u32::to_le_bytes).concat();
+        let tape = [sizes, vec![28; 60], vec![0; 8 * 60], b"ab".to_vec()].concat();
+        let without = std::cell::Cell::new(0);
+        let shape = shrunk(&Case::new(Operation::Check, 0, vec![tape]), |case| {
+            let left = |tape| reading::sections(tape).ok().filter(|s| s.codes.len() == 60).map(|s| s.text.len());
+            without.set(without.get() + usize::from(left(&case.tapes[0]) == Some(0)));
+            left(&case.tapes[0]).is_some_and(|left| left > 0)
+        });
+        assert!(shape.entries() > 60 && without.get() < 10, "{}", without.get());
     }
 
     /// A tape of a provider has no text in the notation, and becomes small all the same.

@@ -10,7 +10,7 @@ pub use fault::{FAULTS, Fault};
 use crate::protocol;
 use crate::response::Response;
 use crate::serve::{Head, Hello};
-use differential::case::{COUNTS, Case, OPERATIONS, Operation};
+use differential::case::{COUNTS, Case, Operation};
 use differential::message;
 use differential::tape::{self, Node};
 use std::io::{self, Write};
@@ -20,8 +20,15 @@ pub struct Second {
     pub fault: Fault,
 }
 
-/// The operations that it has.
-const NAMES: [&str; 6] = ["check", "registry", "substitute", "expand", "preview", "older"];
+/// What it has.
+const HAS: [Operation; 6] = [
+    Operation::Check,
+    Operation::Registry,
+    Operation::Substitute,
+    Operation::Expand,
+    Operation::Preview,
+    Operation::Older,
+];
 
 const RESERVED: [&str; 16] = [
     "decimal", "datetime", "duration", "ip", "let", "in", "where", "for", "sum", "count", "tp", "formerly", "previous",
@@ -30,14 +37,12 @@ const RESERVED: [&str; 16] = [
 
 impl Head for Second {
     fn hello(&self) -> Hello {
-        let has = |operation: &Operation| NAMES.contains(&operation.name());
-        let operations: Vec<Operation> = OPERATIONS.into_iter().filter(has).collect();
-        Hello::of("the kit's second head", &operations)
+        Hello::of("the kit's second head", &HAS)
     }
 
     fn answer(&mut self, case: &Case) -> Response {
         let mut charged = 0;
-        let mut counts = if case.operation.name() == "registry" { [0; COUNTS] } else { case.counts };
+        let mut counts = if case.operation == Operation::Registry { [0; COUNTS] } else { case.counts };
         let made = self.operate(case, &mut charged, &mut counts);
         let mut words = [0; 7];
         let (mut result, mut message) = (vec![], vec![]);
@@ -101,21 +106,21 @@ impl Second {
             }
         }
         let walk = |definitions| Walk::new(self.fault, case.limit, case.file, definitions);
-        match (case.operation.name(), &trees[..]) {
-            ("check", [definition]) => walk(&[]).check(definition).map(|()| None),
-            ("registry", [registry]) => names(registry).map(|()| None),
-            ("substitute", [definition, call]) => {
+        match (case.operation, &trees[..]) {
+            (Operation::Check, [definition]) => walk(&[]).check(definition).map(|()| None),
+            (Operation::Registry, [registry]) => names(registry).map(|()| None),
+            (Operation::Substitute, [definition, call]) => {
                 let mut walk = walk(&[]);
                 let result = walk.substitute_alone(definition, call);
                 *charged = walk.charged;
                 result.map(|tree| Some(self.finished(tree, None)))
             }
-            ("expand" | "preview", [registry, condition]) => {
+            (Operation::Expand | Operation::Preview, [registry, condition]) => {
                 names(registry)?;
                 let mut walk = walk(&registry.children);
                 let result = expanded(&mut walk, condition);
                 *charged = walk.charged;
-                if case.operation.name() == "expand" && (result.is_ok() || self.fault == Fault::CountsOnRefusal) {
+                if case.operation == Operation::Expand && (result.is_ok() || self.fault == Fault::CountsOnRefusal) {
                     walk.calls.iter().for_each(|place| counts[*place] = counts[*place].saturating_add(1));
                 }
                 result.map(|tree| Some(self.finished(tree, Some(condition))))
@@ -168,7 +173,7 @@ mod tests {
     fn answers_differ(fault: Fault, index: u64) -> bool {
         let case = generate::case(1, index);
         let mut head = Second { fault };
-        NAMES.contains(&case.operation.name()) && head.answer(&case) != archive::by_model(&case)
+        HAS.contains(&case.operation) && head.answer(&case) != archive::by_model(&case)
     }
 
     #[test]

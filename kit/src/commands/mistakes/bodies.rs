@@ -1,17 +1,19 @@
 //! What the body checks of macros find: every undeclared parameter, plain identifier and call in a body.
 
-use super::{At, Finding, Search, Within, entries, place_of, repair, said};
+use super::{At, Finding, Search, Within, place_of, repair};
 use crate::nearest::nearest;
-use crate::notation::{self, Placed};
+use crate::notation::{self, Placed, Size};
 use crate::response::Response;
+use differential::case::Operation;
 
 impl Search<'_> {
     /// Each body is asked for until it passes; behind a refusal with what was refused replaced.
     pub fn bodies(&mut self) -> Result<(), String> {
         for i in 0..self.macros.len() {
             let mut draft = self.macros[i].tree.clone();
-            for _ in 0..=entries(&draft) {
-                let response = self.ask("check", &[&draft])?;
+            // There are no more refusals than entries.
+            for _ in 0..=Size::of(&draft).entries {
+                let response = self.ask(Operation::Check, &[&draft]);
                 if !self.body_refused(&mut draft, &response) {
                     break;
                 }
@@ -33,7 +35,7 @@ impl Search<'_> {
         let Some(refused) = first_refused(&draft.children[2], &declared) else { return false };
         let place = if refused.number == response.number() { refused.sigil.place } else { place };
         let at = At { file: 0, place };
-        let mut finding = Finding::refused(response.number(), said(response), within, Some(at));
+        let mut finding = Finding::refused(response.number(), response.said(), within, Some(at));
         finding.meant = meant(refused.number, refused.sigil, &declared);
         let culprit = refused.node.clone();
         self.add(finding);

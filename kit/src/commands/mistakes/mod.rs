@@ -9,19 +9,22 @@ mod names;
 mod repair;
 mod report;
 mod rules;
+mod unfit;
 
 pub use names::joined;
 pub use report::{json, text};
 pub use rules::large;
 
-use super::input::Rules;
-use crate::archive::{self, Expander};
+use super::input::{File, Rules};
+use crate::archive::Expander;
 use crate::figures::{self, Passed, Whose};
-use crate::notation::{self, Mistake, Place, Placed};
+use crate::notation::{self, Mistake, Once, Place, Placed};
 use crate::numbers;
+use crate::reading;
 use crate::response::Response;
-use differential::case::Case;
-use differential::tape;
+use differential::case::{Case, Operation};
+use differential::tape::{self, Sort};
+use std::collections::{BTreeMap, BTreeSet};
 
 /// A place in one of the files.
 #[derive(Clone, Copy, Debug, PartialEq, Eq, PartialOrd, Ord)]
@@ -66,14 +69,6 @@ impl Finding {
     }
 }
 
-/// What a refusal says: its message, or what its number means.
-fn said(response: &Response) -> String {
-    match &response.message[..] {
-        [] => numbers::meaning(response.number()).to_string(),
-        message => String::from_utf8_lossy(message).to_string(),
-    }
-}
-
 /// Added to the places of macros, so that the span of an answer tells them from those of rules.
 const SHIFT: usize = 1 << 31;
 
@@ -84,6 +79,8 @@ pub struct Search<'a> {
     pub limit: u32,
     pub file: u16,
     findings: Vec<Finding>,
+    /// The places of what was added, with the numbers.
+    known: BTreeSet<(Option<At>, Option<u64>)>,
     macros: Vec<Macro>,
 }
 
@@ -107,13 +104,14 @@ impl Macro {
 impl<'a> Search<'a> {
     pub fn new(rules: &'a Rules, expander: &'a mut Expander, limit: u32, file: u16) -> Search<'a> {
         let macros = rules.macros.iter().map(|tree| Macro { tree: tree.clone(), is_callable: true }).collect();
-        Search { rules, expander, limit, file, findings: vec![], macros }
+        Search { rules, expander, limit, file, findings: vec![], known: BTreeSet::new(), macros }
     }
 
     /// Every mistake, in the order of the files.
     pub fn all(mut self) -> Result<Vec<Finding>, String> {
         let rules = self.rules;
         rules.mistakes.iter().for_each(|(file, mistake)| self.findings.push(Finding::unread(*file, mistake)));
+        self.findings.extend(twice(rules));
         self.figures_of_macros();
         self.names()?;
         self.bodies()?;
@@ -130,19 +128,67 @@ impl<'a> Search<'a> {
             2 | 3 => self.figures_of_macros(),
             _ => self.names()?,
         }
-        Ok(self.findings.drain(..).find(|finding| finding.number == Some(number)))
+        Ok(self.taken(|finding| finding.number == Some(number)))
+    }
+
+    /// The first of the weeks that have no number of days, in a rule or, without one, in the macros.
+    pub fn weeks(&self, rule: Option<usize>) -> Option<Finding> {
+        let is_refused = |node: &Placed| node.code == 64 && tape::older(&node.node()).is_none();
+        let finding = |tree: &Placed, file: usize, within: Within| {
+            let place = tree.find(&is_refused)?.place;
+            Some(Finding::refused(52, numbers::meaning(52).to_string(), within, Some(At { file, place })))
+        };
+        let Some(i) = rule else {
+            return self.macros.iter().find_map(|own| finding(&own.tree, 0, Within::Macro(own.shown())));
+        };
+        let condition = &self.rules.conditions[i];
+        finding(condition.tree.as_ref()?, condition.file, Within::Rule(condition.name.clone()))
     }
 
     /// What a rule is refused for, by an operation on the registry and the rule that walks as expansion does.
     pub fn refusal(mut self, i: usize, case: &Case, response: &Response) -> Result<Finding, String> {
         let found = self.first(i, case, response)?;
         let within = Within::Rule(self.rules.conditions[i].name.clone());
-        let mut finding = found.unwrap_or_else(|| Finding::refused(response.number(), said(response), within, None));
+        let found = found.or_else(|| self.unreadable_tape(i, case, response));
+        let mut finding = found.unwrap_or_else(|| Finding::refused(response.number(), response.said(), within, None));
         // What was asked for the place has other spans, if they are written; the answer's own message counts.
         if !response.message.is_empty() {
-            finding.what = said(response);
+            finding.what = response.said();
         }
         Ok(finding)
+    }
+
+    /// What a rule is refused for by an operation on its tape alone, as it was given.
+    pub fn own_refusal(&self, i: usize, case: &Case, response: &Response) -> Option<Finding> {
+        let passed = figures::explained(case).map(|(_, passed)| passed);
+        let is_it = |finding: &Finding| {
+            finding.number == Some(response.number()) && finding.passed.map(|(_, own)| own) == passed
+        };
+        self.figures_of_rule(i).into_iter().find(is_it).or_else(|| self.unreadable_tape(i, case, response))
+    }
+
+    /// What a tape is refused for that cannot be read: the figure that its sizes pass, or the entry that shows that it is no
+    /// tree, or none with the root that is wanted last.
+    pub fn unreadable_tape(&self, i: usize, case: &Case, response: &Response) -> Option<Finding> {
+        let condition = self.rules.conditions.get(i).filter(|_| matches!(response.number(), 2 | 3))?;
+        let File::Tape(_) = self.rules.files[condition.file] else { return None };
+        let wanted = *case.operation.roots().last()?;
+        let tree = reading::tree(&condition.tape, Sort::Any).and_then(|_| reading::tree(&condition.tape, wanted));
+        let why = tree.err()?;
+        let within = Within::Rule(condition.name.clone());
+        let mut finding = Finding::refused(response.number(), response.said(), within, None);
+        match figures::explained(case) {
+            Some((whose, passed)) => {
+                finding.what = format!("{}: {}", finding.what, large(whose, &passed));
+                finding.passed = Some((whose, passed));
+            }
+            None => {
+                let at = |entry| At { file: condition.file, place: Place::new(entry, entry + 1) };
+                finding.what = format!("{}: {why}", finding.what);
+                finding.at = why.entry.map(at);
+            }
+        }
+        Some(finding)
     }
 
     fn first(&mut self, i: usize, case: &Case, response: &Response) -> Result<Option<Finding>, String> {
@@ -171,15 +217,20 @@ impl<'a> Search<'a> {
             (Some((_, own)), Some((_, passed))) => own.figure == passed.figure && own.is == passed.is,
             _ => tape.is_none(),
         };
-        Ok(self.findings.drain(..).find(|finding| finding.number == Some(number) && is_it(finding)))
+        Ok(self.taken(|finding| finding.number == Some(number) && is_it(finding)))
     }
 
     /// Adds what was not found before.
     fn add(&mut self, finding: Finding) {
-        let is_known = self.findings.iter().any(|other| (other.at, other.number) == (finding.at, finding.number));
-        if !is_known || finding.at.is_none() {
+        if self.known.insert((finding.at, finding.number)) || finding.at.is_none() {
             self.findings.push(finding);
         }
+    }
+
+    /// The first of what was found that is as wanted; the rest goes.
+    fn taken(&mut self, is_wanted: impl Fn(&Finding) -> bool) -> Option<Finding> {
+        self.known.clear();
+        self.findings.drain(..).find(is_wanted)
     }
 
     /// The macro that a place is in.
@@ -187,35 +238,50 @@ impl<'a> Search<'a> {
         self.macros.iter().position(|own| own.tree.place.holds(place))
     }
 
-    fn case(&self, operation: &str, tapes: Vec<Vec<u8>>) -> Result<Case, String> {
-        let operation = archive::operation(operation)?;
+    fn case(&self, operation: Operation, tapes: Vec<Vec<u8>>) -> Case {
         let limit = if operation.charges() { self.limit } else { 0 };
         let file = if operation.charges() { self.file } else { 0 };
-        Ok(Case { file, ..Case::new(operation, limit, tapes) })
+        Case { file, ..Case::new(operation, limit, tapes) }
     }
 
     /// What is asked of trees whose spans are their places.
-    fn placed_case(&self, operation: &str, trees: &[&Placed]) -> Result<Case, String> {
+    fn placed_case(&self, operation: Operation, trees: &[&Placed]) -> Case {
         let shift = |tree: &Placed| if matches!(tree.code, 41 | 60) { SHIFT } else { 0 };
         self.case(operation, trees.iter().map(|tree| tape::encode(&tree.with_places(shift(tree)))).collect())
     }
 
-    fn ask(&mut self, operation: &str, trees: &[&Placed]) -> Result<Response, String> {
-        let case = self.placed_case(operation, trees)?;
-        Ok(self.expander.answer(&case))
+    fn ask(&mut self, operation: Operation, trees: &[&Placed]) -> Response {
+        let case = self.placed_case(operation, trees);
+        self.expander.answer(&case)
     }
 }
 
-/// How many entries a tree has: more than it can have refusals.
-fn entries(tree: &Placed) -> usize {
-    let mut entries = 0;
-    tree.visit(&mut |_| entries += 1);
-    entries
+/// What is to stand once and stands again, each with the first one. Rules of two files are chosen by their names together.
+fn twice(rules: &Rules) -> Vec<Finding> {
+    let (mut first, mut findings) = (BTreeMap::new(), Vec::new());
+    for (file, once, place) in &rules.once {
+        let (own_file, what) = match once {
+            Once::Rule(_) => (None, "a second rule of this name, so that `--rule` finds neither"),
+            Once::Limit => (Some(file), "a second `limit`, which counts in the place of the first"),
+            Once::File => (Some(file), "a second `file`, which counts in the place of the first"),
+        };
+        let at = At { file: *file, place: *place };
+        let first = *first.entry((own_file, once)).or_insert(at);
+        if first != at {
+            let mistake = Mistake::new(place.start, place.end, what);
+            let other = Some((first, "the first one".to_string()));
+            findings.push(Finding { other, ..Finding::unread(*file, &mistake) });
+        }
+    }
+    findings
 }
 
 /// The span of an answer as a place, and whether that is in the macros.
 fn place_of(response: &Response) -> (Place, bool) {
-    let (start, end) = (response.words[1] as usize, response.words[2] as usize);
+    place_at(response.words[1] as usize, response.words[2] as usize)
+}
+
+fn place_at(start: usize, end: usize) -> (Place, bool) {
     match start.checked_sub(SHIFT) {
         Some(start) => (Place::new(start, end - SHIFT), true),
         None => (Place::new(start, end), false),
@@ -226,9 +292,7 @@ fn place_of(response: &Response) -> (Place, bool) {
 mod tests {
     use super::*;
     use crate::notation::{Rule, Spans};
-    use differential::case::Operation;
     use differential::generate;
-    use differential::tape::Sort;
 
     /// On generated macros and rules a mistake is told exactly if the expander refuses the names, a body or the rule; the
     /// number that it refuses first is among those told; and every place is in the text.
@@ -262,16 +326,16 @@ mod tests {
 
     /// What the names, the bodies and the rule are refused with.
     fn refused(expander: &mut Expander, rules: &Rules, case: &Case) -> Vec<u64> {
-        let mut ask = |name: &str, tapes: Vec<Vec<u8>>| {
-            let operation = archive::operation(name).expect("an operation");
+        let mut ask = |operation: Operation, tapes: Vec<Vec<u8>>| {
             let limit = if operation.charges() { case.limit } else { 0 };
             let file = if operation.charges() { case.file } else { 0 };
             expander.answer(&Case { file, ..Case::new(operation, limit, tapes) }).number()
         };
-        let mut numbers = vec![ask("registry", vec![rules.registry.clone()])];
-        numbers.extend(rules.definitions.iter().map(|definition| ask("check", vec![tape::encode(definition)])));
+        let mut numbers = vec![ask(Operation::Registry, vec![rules.registry.clone()])];
+        numbers
+            .extend(rules.definitions.iter().map(|definition| ask(Operation::Check, vec![tape::encode(definition)])));
         if numbers.iter().all(|number| *number == 0) {
-            numbers.push(ask("expand", vec![rules.registry.clone(), rules.conditions[0].tape.clone()]));
+            numbers.push(ask(Operation::Expand, vec![rules.registry.clone(), rules.conditions[0].tape.clone()]));
         }
         // Where something else is refused, the rule is asked for without that.
         numbers.retain(|number| *number != 0);

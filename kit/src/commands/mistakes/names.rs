@@ -1,12 +1,12 @@
 //! The figures of the macros, their texts, and their names: reserved ones, and ones that stand twice.
 
-use super::{At, Finding, Search, Within, place_of, repair, said};
-use crate::archive;
+use super::{At, Finding, Search, Within, repair};
 use crate::commands::input::Rules;
 use crate::figures::{self, Figure};
 use crate::notation::{self, Place, Placed};
-use differential::case::Case;
-use differential::tape::{self, LARGEST_TEXT};
+use differential::case::{Case, Operation};
+use differential::tape::{self, LARGEST_TEXT, Node};
+use std::collections::HashMap;
 
 impl Search<'_> {
     /// Ill-formed texts of the macros, and the figures that they pass. What is wrong with a text is repaired; a macro that
@@ -36,23 +36,27 @@ impl Search<'_> {
         }
     }
 
-    /// Reserved names, and names that stand twice, of which the first counts. Of each macro its name alone is asked for, so
-    /// that the registry is never too large for that.
+    /// Reserved names, and names that stand twice, of which the first counts. Of each macro its name alone is asked for,
+    /// behind the first one of that name: so few are never too large a registry, however many macros there are.
     pub fn names(&mut self) -> Result<(), String> {
-        let mut left: Vec<usize> = (0..self.macros.len()).filter(|i| self.has_own_name(*i)).collect();
-        loop {
-            let heads = left.iter().map(|i| head(&self.macros[*i].tree)).collect();
-            let registry = Placed::counted(41, 1, Place::default(), heads);
-            let response = self.ask("registry", &[&registry])?;
-            let (place, _) = place_of(&response);
-            let refused = left.iter().position(|i| self.macros[*i].tree.place == place);
-            let (10 | 11, Some(at)) = (response.number(), refused) else { return Ok(()) };
+        let mut firsts: HashMap<Vec<u8>, usize> = HashMap::new();
+        for i in 0..self.macros.len() {
+            if !self.has_own_name(i) {
+                continue;
+            }
+            let name = self.macros[i].name().to_vec();
+            let first = firsts.get(&name).copied();
             // A message says where the first one is, which is asked of the spans as they are written.
-            let written = Case::new(archive::operation("registry")?, 0, vec![tape::encode(&registry.node())]);
-            let what = said(&self.expander.answer(&written));
-            let i = left.remove(at);
-            self.name_refused(i, &left[..at], response.number(), what);
+            let heads = first.into_iter().chain([i]).map(|i| head(&self.macros[i].tree).node()).collect();
+            let case = Case::new(Operation::Registry, 0, vec![tape::encode(&Node::counted(41, 1, heads))]);
+            let response = self.expander.answer(&case);
+            match response.number() {
+                0 => _ = firsts.insert(name, i),
+                number @ (10 | 11) => self.name_refused(i, first, number, response.said()),
+                _ => {}
+            }
         }
+        Ok(())
     }
 
     /// Whether the name of a macro is the one that was written.
@@ -60,23 +64,22 @@ impl Search<'_> {
         self.macros[i].name() == self.rules.macros[i].children[0].text
     }
 
-    fn name_refused(&mut self, i: usize, before: &[usize], number: u64, what: String) {
+    fn name_refused(&mut self, i: usize, first: Option<usize>, number: u64, what: String) {
         let at = |i: usize| At { file: 0, place: self.macros[i].tree.children[0].place };
-        let own = &self.macros[i];
-        let first = before.iter().find(|other| self.macros[**other].name() == own.name()).filter(|_| number == 11);
-        let mut finding = Finding::refused(number, what, Within::Macro(own.shown()), Some(at(i)));
-        finding.other = first.map(|first| (at(*first), "the first one".to_string()));
+        let mut finding = Finding::refused(number, what, Within::Macro(self.macros[i].shown()), Some(at(i)));
+        finding.other = first.map(|first| (at(first), "the first one".to_string()));
         self.macros[i].is_callable = false;
         self.add(finding);
     }
 
     /// Whether calls of this name are passed over: of what it was to be, nothing can be asked.
-    pub fn is_passed_over(&self, name: &[u8]) -> bool {
+    pub fn is_passed_over(&self, name: &Placed) -> bool {
         let is_known = |is_callable| {
-            let mut own = (0..self.macros.len()).filter(|i| self.rules.macros[*i].children[0].text == name);
+            let mut own = (0..self.macros.len()).filter(|i| self.rules.macros[*i].children[0].text == name.text);
             own.any(|i| self.macros[i].is_callable == is_callable)
         };
-        !is_known(true) && (is_known(false) || self.rules.unread.iter().any(|unread| unread == name))
+        let is_unread = || self.rules.unread.contains(&name.text);
+        repair::is_wrong(name) || !is_known(true) && (is_known(false) || is_unread())
     }
 }
 
@@ -102,12 +105,14 @@ fn head(definition: &Placed) -> Placed {
 /// Every text of a tree that is ill-formed, and every figure that the tree passes.
 pub fn of_tree(tree: &Placed, file: usize) -> Vec<Finding> {
     let (mut places, mut findings) = (Vec::new(), Vec::new());
-    let refused = |number, what, place| Finding::refused(number, what, Within::Macros, Some(At { file, place }));
+    let refused = |number, what, place: Option<Place>| {
+        Finding::refused(number, what, Within::Macros, place.map(|place| At { file, place }))
+    };
     tree.visit(&mut |node| {
         places.push(node.place);
         if let Some(why) = tape::ill_formed(&node.text, &[]) {
             let what = format!("a text that is no well-formed UTF-8 without controls: {why}");
-            findings.push(refused(2, what, node.place));
+            findings.push(refused(2, what, Some(node.place)));
         }
     });
     findings.extend(figures::passed(&tree.node(), LARGEST_TEXT).into_iter().map(|passed| {
@@ -116,7 +121,7 @@ pub fn of_tree(tree: &Placed, file: usize) -> Vec<Finding> {
             Figure::Parameters | Figure::Literal | Figure::Name => "",
         };
         let what = format!("over a largest figure: {}{here}", passed.said());
-        let mut finding = refused(3, what, places[passed.entry]);
+        let mut finding = refused(3, what, passed.entry.map(|entry| places[entry]));
         finding.passed = Some((figures::Whose::Tape(0), passed));
         finding
     }));

@@ -91,13 +91,21 @@ pub fn replace(node: &mut Placed, is_wanted: &impl Fn(&Placed) -> bool, by: &imp
     node.children.iter_mut().any(|child| replace(child, is_wanted, by))
 }
 
+/// Whether an entry's text is too long or ill-formed.
+pub fn is_wrong(node: &Placed) -> bool {
+    node.text.len() > most(node) || tape::ill_formed(&node.text, &[]).is_some()
+}
+
+fn most(node: &Placed) -> usize {
+    if matches!(node.code, 22 | 23) { LARGEST_LITERAL } else { LARGEST_TEXT }
+}
+
 /// Every text that is too long or ill-formed becomes one that is not. Whether there was one.
 pub fn shorten(node: &mut Placed) -> bool {
-    let most = if matches!(node.code, 22 | 23) { LARGEST_LITERAL } else { LARGEST_TEXT };
-    let is_wrong = node.text.len() > most || tape::ill_formed(&node.text, &[]).is_some();
+    let is_wrong = is_wrong(node);
     if is_wrong {
         let text = String::from_utf8_lossy(&node.text).replace(|c: char| c.is_control(), "_");
-        let end = (0..=most.min(text.len())).rev().find(|i| text.is_char_boundary(*i)).unwrap_or(0);
+        let end = text.floor_char_boundary(most(node));
         node.text = text.as_bytes()[..end].to_vec();
         node.value = end as u64;
     }

@@ -4,6 +4,7 @@ use super::{At, Finding, Within};
 use crate::commands::input::{File, Rules};
 use crate::figures::{Passed, Whose};
 use crate::json::Value;
+use crate::notation;
 
 /// A mistake with its place, its line, and what belongs to it.
 pub fn text(rules: &Rules, finding: &Finding) -> String {
@@ -28,7 +29,7 @@ fn within(within: &Within) -> Option<String> {
         Within::Text => None,
         Within::Macros => Some("in the macros".to_string()),
         Within::Macro(name) => Some(format!("in macro `{name}`")),
-        Within::Rule(name) => Some(format!("in rule `{name}`")),
+        Within::Rule(name) => Some(format!("in rule `{}`", notation::visible(name))),
     }
 }
 

@@ -2,12 +2,13 @@
 
 use super::bodies::parameters;
 use super::names::of_tree;
-use super::{At, Finding, Search, Within, entries, place_of, repair, said};
+use super::{At, Finding, Search, Within, place_of, repair};
 use crate::figures::{self, Figure, Passed, Whose};
 use crate::nearest::nearest;
-use crate::notation::{self, Place, Placed};
+use crate::notation::{self, Place, Placed, Size};
 use crate::reading;
 use crate::response::Response;
+use differential::case::Operation;
 use differential::message;
 use differential::tape::{self, LARGEST, Measure, Node, Sort};
 use std::collections::BTreeSet;
@@ -26,7 +27,7 @@ impl Draft {
     }
 
     fn refused(&self, response: &Response, place: Place) -> Finding {
-        Finding::refused(response.number(), said(response), self.within.clone(), Some(self.at(place)))
+        Finding::refused(response.number(), response.said(), self.within.clone(), Some(self.at(place)))
     }
 
     fn is_repaired_in(&self, outer: Place) -> bool {
@@ -68,15 +69,16 @@ impl Search<'_> {
     pub fn rule(&mut self, i: usize) -> Result<(), String> {
         let Some(mut draft) = self.draft(i) else { return self.unreadable(i) };
         self.figures_of_rule(i).into_iter().for_each(|finding| self.add(finding));
+        // Before names are repaired, since none is called that was not written.
+        let is_passed_over = |call: &Placed| self.is_passed_over(&call.children[0]);
+        let replaced = repair::without_calls(&mut draft.tree, &is_passed_over, &|name| self.is_value(name));
+        draft.repaired.extend(replaced);
         if repair::shorten(&mut draft.tree) {
             draft.repaired.insert(draft.tree.place);
         }
-        let is_passed_over = |call: &Placed| self.is_passed_over(&call.children[0].text);
-        let replaced = repair::without_calls(&mut draft.tree, &is_passed_over, &|name| self.is_value(name));
-        draft.repaired.extend(replaced);
-        for _ in 0..=2 * entries(&draft.tree) {
+        for _ in 0..=2 * Size::of(&draft.tree).entries {
             let registry = self.called(&draft.tree);
-            let response = self.ask("expand", &[&registry, &draft.tree])?;
+            let response = self.ask(Operation::Expand, &[&registry, &draft.tree]);
             if response.number() == 0 || !self.rule_refused(&mut draft, &registry, &response)? {
                 break;
             }
@@ -96,7 +98,7 @@ impl Search<'_> {
         let Some(mut draft) = self.draft(i) else { return Ok(()) };
         let macros = self.macros.iter().map(|own| own.tree.clone()).collect();
         let registry = Placed::counted(41, 1, Place::default(), macros);
-        let response = self.ask("expand", &[&registry, &draft.tree])?;
+        let response = self.ask(Operation::Expand, &[&registry, &draft.tree]);
         if response.number() == number {
             self.rule_refused(&mut draft, &registry, &response)?;
         }
@@ -106,7 +108,7 @@ impl Search<'_> {
     fn draft(&self, i: usize) -> Option<Draft> {
         let condition = &self.rules.conditions[i];
         let within = Within::Rule(condition.name.clone());
-        let tree = condition.tree.clone()?;
+        let tree = condition.tree.clone().filter(|tree| tape::codes(Sort::Condition).contains(&tree.code))?;
         Some(Draft { tree, within, file: condition.file, repaired: BTreeSet::new() })
     }
 
@@ -114,14 +116,11 @@ impl Search<'_> {
     fn unreadable(&mut self, i: usize) -> Result<(), String> {
         let condition = &self.rules.conditions[i];
         let registry = tape::encode(&Node::counted(41, 1, vec![]));
-        let case = self.case("expand", vec![registry, condition.tape.clone()])?;
+        let case = self.case(Operation::Expand, vec![registry, condition.tape.clone()]);
         let response = self.expander.answer(&case);
-        let mut finding =
-            Finding::refused(response.number(), said(&response), Within::Rule(condition.name.clone()), None);
-        if let Some((whose, passed)) = figures::explained(&case) {
-            finding.what = format!("{}: {}", finding.what, passed.said());
-            finding.passed = Some((whose, passed));
-        }
+        let within = Within::Rule(condition.name.clone());
+        let finding = self.unreadable_tape(i, &case, &response);
+        let finding = finding.unwrap_or_else(|| Finding::refused(response.number(), response.said(), within, None));
         self.add(finding);
         Ok(())
     }
@@ -228,7 +227,7 @@ impl Search<'_> {
         finding.at = Some(at);
         finding.within = Within::Macro(name(definition));
         let rule = match &draft.within {
-            Within::Rule(name) => format!("called by rule `{name}`"),
+            Within::Rule(name) => format!("called by rule `{}`", notation::visible(name)),
             _ => "called".to_string(),
         };
         finding.other = is_in_macro.then_some((called, rule));
@@ -246,7 +245,7 @@ impl Search<'_> {
         let Some(i) = self.macro_around(place) else { return Ok(None) };
         let own = self.macros[i].name().to_vec();
         for call in all.into_iter().filter(|call| call.children[0].text == own) {
-            let alone = self.ask("expand", &[registry, &self.alone(call)])?;
+            let alone = self.ask(Operation::Expand, &[registry, &self.alone(call)]);
             if (alone.number(), place_of(&alone)) == (response.number(), place_of(response)) {
                 return Ok(Some(call.clone()));
             }
@@ -290,7 +289,9 @@ impl Search<'_> {
 
     fn too_large(&mut self, draft: &mut Draft, registry: &Placed, response: &Response) -> Result<bool, String> {
         let tapes = vec![registry, &draft.tree];
-        let Some((whose, passed)) = figures::explained(&self.placed_case("expand", &tapes)?) else { return Ok(false) };
+        let Some((whose, passed)) = figures::explained(&self.placed_case(Operation::Expand, &tapes)) else {
+            return Ok(false);
+        };
         let (place, _) = place_of(response);
         let is_it = |node: &Placed| node.code == 54 && node.place == place;
         let place = match whose {
@@ -343,7 +344,7 @@ impl Search<'_> {
     fn outcome(&mut self, registry: &Placed, node: &Placed) -> Result<Measure, String> {
         let call = if node.code == 11 { &node.children[0] } else { &node.children[0].children[0] };
         let is_value = self.is_value(&call.children[0].text);
-        let result = self.ask("expand", &[registry, &self.alone(call)])?.result;
+        let result = self.ask(Operation::Expand, &[registry, &self.alone(call)]).result;
         let tree = reading::tree(&reading::with_zeros(&result), Sort::Any).ok();
         let made = tree.as_ref().map(|tree| if is_value { &tree.children[1] } else { tree });
         // What is too large beside `== *` is too large for the rest of a condition, too.
