@@ -132,7 +132,9 @@ fn checkout() -> PathBuf {
         fs::copy(example.path(), top.join("examples").join(example.file_name())).expect("a file");
     }
     let link = |to: &Path, at: &str| std::os::unix::fs::symlink(to, top.join(at)).expect("a link");
-    for file in ["neukolja", "kit/help", "kit/help.txt", "kit/format.txt"] {
+    // A script that is linked takes the checkout that it is in for its own.
+    fs::copy(real.join("neukolja"), top.join("neukolja")).expect("a file");
+    for file in ["kit/help", "kit/help.txt", "kit/format.txt"] {
         link(&real.join(file), file);
     }
     link(Path::new(env!("CARGO_BIN_EXE_kit")), "kit/target/release/kit");
