@@ -1,12 +1,9 @@
 //! JSON as the kit writes it (RFC 8259). `{}` is one line; `{:#}` has a line for each item and two blanks for each level.
 //!
 //! Nothing in the kit reads JSON. Numbers are natural ones, as all that an operation answers; a reader whose numbers are
-//! of floating point has them exactly up to [`LARGEST_EXACT`].
+//! of floating point has them exactly up to 2^53 - 1.
 
 use std::fmt::{self, Display, Formatter, Write};
-
-/// 2^53 - 1: up to here every number is one of floating point too.
-pub const LARGEST_EXACT: u64 = (1 << 53) - 1;
 
 #[derive(Clone, Debug, PartialEq, Eq)]
 pub enum Value {

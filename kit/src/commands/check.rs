@@ -4,8 +4,9 @@ use super::args::Args;
 use super::expand::NO_LIMIT;
 use super::input::Rules;
 use super::mistakes::{self, Search};
-use super::{Done, counted, say_who};
+use super::{Done, say_who};
 use crate::archive::Expander;
+use crate::pair::counted;
 use differential::case::Operation;
 
 pub fn check(words: &[String]) -> Result<Done, String> {
@@ -27,8 +28,8 @@ pub fn check(words: &[String]) -> Result<Done, String> {
         say_who(&expander, Operation::Check);
         findings.iter().for_each(|finding| say!("{}", mistakes::text(&rules, finding)));
         let [macros, conditions] = [(rules.macros.len(), "macro"), (rules.conditions.len(), "rule")];
-        let [macros, conditions] = [macros, conditions].map(|(n, what)| counted(n, what));
-        say!("{macros}, {conditions}, {}", counted(findings.len(), "mistake"));
+        let [macros, conditions] = [macros, conditions].map(|(n, what)| counted(n as u64, what));
+        say!("{macros}, {conditions}, {}", counted(findings.len() as u64, "mistake"));
     }
     Ok(if findings.is_empty() { Done::Well } else { Done::Refused })
 }

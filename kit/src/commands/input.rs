@@ -1,9 +1,9 @@
 //! Files that are tapes or texts in the notation; which of the two is seen from their bytes.
 
 use super::args::Args;
-use super::counted;
 use crate::nearest::nearest;
 use crate::notation::{self, Mistake, Once, Place, Placed, Reading, Rule};
+use crate::pair::counted;
 use crate::reading;
 use crate::source::Source;
 use differential::tape::{self, Node, Sort};
@@ -111,7 +111,7 @@ pub fn tape(path: &str) -> Result<Vec<u8>, String> {
             let several = || {
                 let name = |(i, rule)| format!("`{}`", notation::visible(&rule_name(i, rule)));
                 let names: Vec<String> = document.rules.iter().enumerate().map(name).collect();
-                let macros = counted(document.definitions.len(), "macro");
+                let macros = counted(document.definitions.len() as u64, "macro");
                 format!("{path}: {macros} and the rules {}, which are several tapes", names.join(", "))
             };
             document.tree().map(|tree| tape::encode(&tree)).ok_or_else(several)

@@ -65,11 +65,6 @@ fn version() -> String {
     format!("neukolja, the kit by itself\narchive: {archive}\n{}", help::FORMAT)
 }
 
-/// `1 macro`, `2 macros`
-fn counted(n: usize, what: &str) -> String {
-    format!("{n} {what}{}", if n == 1 { "" } else { "s" })
-}
-
 /// `../neukolja` sets it where it has said what answers.
 const SAID: &str = "NEUKOLJA_SAID";
 

@@ -30,7 +30,7 @@ pub use heads::NotRun;
 pub use limits::of_shape as figures;
 pub use process::{Failure, Outcome, Process};
 pub use progress::{Progress, clock, grouped};
-pub use report::{summary, text, trouble};
+pub use report::{counted, summary, text, trouble};
 pub use run::{Found, Gathered, Pairing, Plan, State, Status, Went, pair, status};
 pub use shape::Shape;
 pub use shrink::{Effort, Shrunk, shrink};

@@ -172,16 +172,6 @@ impl Process {
         Ok(response)
     }
 
-    /// One case and its answer. After a failure the head is started again.
-    pub fn ask(&mut self, case: &Case) -> Result<Outcome, String> {
-        self.send(case);
-        let outcome = self.receive();
-        if outcome.is_err() {
-            self.restart()?;
-        }
-        Ok(outcome)
-    }
-
     /// One case asked of it, as it was just started, and what it wrote to standard error from its start to its end.
     pub fn ask_alone(&mut self, case: &Case) -> Result<(Outcome, Complaints), String> {
         self.send(case);
