@@ -10,10 +10,10 @@ pub struct Sizes {
     pub message: usize,
 }
 
-// A vector's parts, and its kind: None where the list names no operation or number that there is.
+// A vector's parts, and its kind.
 #[derive(Clone, Copy, Debug, PartialEq, Eq)]
 pub struct Vector<'a> {
-    pub kind: Option<Kind>,
+    pub kind: Kind,
     pub limit: u32,
     pub file: u16,
     pub index: u32,
@@ -55,9 +55,14 @@ impl<'a> List<'a> {
         self.take(n as usize)
     }
 
-    // A tape that only some operations have.
+    // A tape that only some vectors have. Without one, what comes next is read as it for an operation that takes one, and read again
+    // as what it is.
     fn tape_if(&mut self, has: bool) -> &'a [u8] {
-        if has { self.bytes() } else { &[] }
+        if has {
+            return self.bytes();
+        }
+        let mut ahead = *self;
+        ahead.bytes()
     }
 
     pub fn vector(&mut self) -> Vector<'a> {

@@ -79,25 +79,33 @@ impl fmt::Display for Operation {
     }
 }
 
-// An operation and the number that it is to answer with.
+// The number of an operation, as a list has it, and the number that it is to answer with.
 #[derive(Clone, Copy, Debug, PartialEq, Eq)]
 pub struct Kind {
-    pub operation: Operation,
+    pub operation: u8,
     pub number: usize,
+    ghost has_row: { operation < 16 },
     ghost in_range: { number < 64 },
 }
 
 impl Kind {
-    // None where there is no such operation, or no operation has such a number.
-    pub fn new(operation: u8, number: u64) -> Option<Kind> {
-        let operation = Operation::try_from(operation).ok()?;
-        if number < 64 {
-            Some(Kind {
+    // What a tally has no row or place for is counted as number 1 of no operation.
+    pub fn new(operation: u8, number: u64) -> Kind {
+        if operation < 16 && number < 64 {
+            Kind {
                 operation,
                 number: number as usize,
-            })
+            }
         } else {
-            None
+            Kind {
+                operation: 0,
+                number: 1,
+            }
         }
+    }
+
+    // None where no operation has the number.
+    pub fn operation(self) -> Option<Operation> {
+        Operation::try_from(self.operation).ok()
     }
 }

@@ -1,7 +1,7 @@
 // A vector run through its operation, and compared with what is expected.
 use crate::list::Vector;
 use crate::operation::Operation;
-use answer::Answer;
+use answer::{Answer, refuse_number};
 use buffer::{read_size, read_value};
 use preview::Previewed;
 
@@ -110,15 +110,28 @@ fn run_judge(v: &Vector, buffers: &mut Buffers) -> Answer {
     )
 }
 
-// What the vector's operation answers, if it has one. Of all but a preview, no sizes of a result stand beside the answer.
-fn run(v: &Vector, buffers: &mut Buffers, counts: &mut [u32; 255]) -> Option<Previewed> {
+// An answer that has no sizes of a result beside it.
+fn without_sizes(answer: Answer) -> Previewed {
+    Previewed {
+        answer,
+        entries: 0,
+        text: 0,
+    }
+}
+
+// What the vector's operation answers. Of all but a preview, no sizes of a result stand beside the answer.
+fn run(v: &Vector, buffers: &mut Buffers, counts: &mut [u32; 255]) -> Previewed {
     let tape = v.first;
-    let answer = match v.kind?.operation {
+    let Some(operation) = v.kind.operation() else {
+        // A number that no operation answers: no list of `differential record` expects it.
+        return without_sizes(refuse_number(0xFFFF_FFFF, buffers.message));
+    };
+    without_sizes(match operation {
         Operation::Check => check_body::check(tape, buffers.message),
         Operation::Registry => build(tape, buffers.message, counts),
         Operation::Substitute => run_substitute(v, buffers),
         Operation::Expand => run_expand(v, buffers, counts),
-        Operation::Preview => return Some(run_preview(v, buffers)),
+        Operation::Preview => return run_preview(v, buffers),
         Operation::CheckLibrary => {
             check_library::check_library(tape, buffers.result, buffers.message)
         }
@@ -130,20 +143,13 @@ fn run(v: &Vector, buffers: &mut Buffers, counts: &mut [u32; 255]) -> Option<Pre
         Operation::Provider => provider::provider(tape),
         Operation::ArgumentToTerm => provider::argument_to_term(tape, buffers.result),
         Operation::TermToArgument => provider::term_to_argument(tape, buffers.result),
-    };
-    Some(Previewed {
-        answer,
-        entries: 0,
-        text: 0,
     })
 }
 
-// The answer and the counts. A vector that has no operation has no answer that a list could expect.
+// The answer and the counts.
 fn answers(v: &Vector, buffers: &mut Buffers) -> bool {
     let mut counts = counts_of(v.given);
-    let Some(r) = run(v, buffers, &mut counts) else {
-        return false;
-    };
+    let r = run(v, buffers, &mut counts);
     tells(r, v.numbers) && same_counts(&counts, v.counted)
 }
 
