@@ -1,4 +1,5 @@
 -- What an answer prints.
+-- Assumes nothing.
 use Rattle.std.specs.Prelude.{ℕ, List, ◌++◌, codes, decimal}
 use Rattle.answer.specs.declared.Answer.{Answer}
 

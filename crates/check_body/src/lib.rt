@@ -47,12 +47,19 @@ pub fn check_def(tape: &Tape, p: Place) -> Result<Place, Refused>
     check_body(&d, node, next)
 }
 
-// The same without the place behind it.
+// What a check found, without the place behind it.
+pub fn verdict_of(found: Result<Place, Refused>) -> Result<(), Refused>
+    ensures { result ≡ verdict_of found }
+{
+    found?;
+    Ok(())
+}
+
+// The verdict on the definition at a place.
 pub fn verdict(tape: &Tape, p: Place) -> Result<(), Refused>
     ensures { result ≡ verdict_of (def_in tape.now.bytes.now tape.now.layout p) }
 {
-    check_def(tape, p)?;
-    Ok(())
+    verdict_of(check_def(tape, p))
 }
 
 // The operation: the answer and every byte of the message buffer are what the definition says, for every slice and every buffer.

@@ -166,7 +166,7 @@ calls_of row = pick row.is_call 1 0
 
 -- the word of what follows a code at a place of a sort: the sort's own, or else the code's
 abbrev pub follows_in : SortRule → CodeRule → ℕ
-follows_in sort row = pick (eqb sort.own 0) row.follows sort.own
+follows_in sort row = (pick (eqb sort.own 0) row.follows sort.own) % 0x40000000
 
 -- the sorts of a word in base 64, the first lowest, and the last of them `more` times more; k digits at the most
 abbrev pub sorts_in : ℕ → ℕ → ℕ → List ℕ

@@ -1,5 +1,5 @@
 // Document 01's table "Codes on the tape"; specs/Grammar.antt has it with names, specs/Words.antt says how it is written.
-ghost use Rattle.std.specs.Prelude.{◌≡◌};
+ghost use Rattle.std.specs.Prelude.{◌≡◌, ◌<◌};
 ghost use Rattle.grammar.specs.Words.{follows_in, in_sort, is_each, rules, temporal_grammar};
 
 use crate::code;
@@ -195,19 +195,20 @@ pub fn in_sort(sort: SortRule, code: u8) -> bool
     sort.low <= code && (code < sort.end || (sort.low_too <= code) & (code < sort.end_too))
 }
 
-// The word of what follows a code at a place of a sort.
+// The word of what follows a code at a place of a sort: five sorts at the most, which are 30 bits.
 pub fn follows_in(sort: SortRule, row: CodeRule) -> u32
-    ensures { result ≡ follows_in sort row }
+    ensures { (result ≡ follows_in sort row) × (result < 0x40000000) }
 {
-    if sort.own == 0 { row.follows } else { sort.own }
+    let word = if sort.own == 0 { row.follows } else { sort.own };
+    word % 0x4000_0000
 }
 
 // What follows is as many of the sort above this as the value says.
 pub(crate) const EACH: u32 = 0o40;
 
 // Whether what follows is as many of a sort as the value says.
-pub fn is_each(follows: u32) -> bool
+pub fn is_each(follows: u64) -> bool
     ensures { result ≡ is_each follows }
 {
-    (EACH <= follows) & (follows < 64)
+    (u64::from(EACH) <= follows) & (follows < 64)
 }

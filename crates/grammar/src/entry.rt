@@ -39,7 +39,11 @@ pub fn width_of(row: CodeRule, value: u64) -> u64
 fn count_of(follows: u32, value: u64) -> u64
     ensures { result ≡ counted (follows_of follows) value }
 {
-    if is_each(follows) { value } else { 0 }
+    if is_each(u64::from(follows)) {
+        value
+    } else {
+        0
+    }
 }
 
 // Whether a value is one of the first `values` numbers, or may be any.

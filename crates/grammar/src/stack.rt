@@ -45,7 +45,7 @@ impl Cell {
         if follows == 0 {
             return None;
         }
-        if !is_each(follows) {
+        if !is_each(u64::from(follows)) {
             return Some(Cell {
                 word: follows,
                 more: 0,

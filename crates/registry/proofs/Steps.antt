@@ -31,7 +31,7 @@ use Rattle.nodes.specs.declared.Refusal.{Refusal}
 use Rattle.nodes.specs.declared.Heading.{Heading}
 use Rattle.messages.specs.Reason.{without_message}
 use Rattle.messages.specs.declared.Refused.{Refused}
-use Rattle.registry.specs.Places.{origin, key_from, key_of, end_of, cons_if, key_at, rows_from, get_at, and_then_in, check_at, build_from_at, build_at}
+use Rattle.registry.specs.Places.{origin, key_from, key_of, from_key, end_of, cons_if, key_at, rows_from, get_at, and_then_in, check_at, build_from_at, build_at}
 use Rattle.nodes.specs.declared.Definition.{Definition}
 use Rattle.registry.specs.declared.rows.Row.{Row}
 
@@ -144,6 +144,18 @@ heading_or other (Some read) = read
 read_ok : {x : Result (Heading × Place) Refusal} {read : Heading × Place} → result_ok x ≡ Some read → x ≡ Ok read
 read_ok {x = Ok r} {read} e = ap (λ o. Ok (heading_or read o)) e
 read_ok {x = Err f} e = absurd cc
+
+module _ (s : List ℕ) (l : Layout) (name : Text) where
+  -- rows with other keys have other names
+  from_key_lem : (rs : List Row) → get_at s l (from_key (key_of name) rs) name ≡ get_at s l rs name
+  unfolding get_at from_key
+  from_key_lem [] = refl
+  from_key_lem (r ∷ rs) = go (eqb r.key (key_of name)) refl (from_key_lem rs)
+    where
+      go : (b : Bool) → eqb r.key (key_of name) ≡ b → get_at s l (from_key (key_of name) rs) name ≡ get_at s l rs name
+          → get_at s l (pick b (r ∷ rs) (from_key (key_of name) rs)) name ≡ get_at s l (r ∷ rs) name
+      go true t e = refl
+      go false t e = let other : get_at s l (r ∷ rs) name ≡ get_at s l rs name = rw t in e ∙ sym other
 
 module _ (s : List ℕ) (l : Layout) (name : Text) (rows : List Row) where
   module _ (i : ℕ) {g : Option Definition} (inv : get_at s l (drop i rows) name ≡ g) where

@@ -30,6 +30,11 @@ key_of name = key_from 0 name
 abbrev pub origin : Place
 origin = record { at = 0; text = 0 }
 
+-- the rows from the first one on that has a key
+unfoldable pub from_key : ℕ → List Row → List Row
+from_key key [] = []
+from_key key (r ∷ rs) = pick (eqb r.key key) (r ∷ rs) (from_key key rs)
+
 -- where a definition ends, by the rows behind its own
 unfoldable pub end_of : Layout → List Row → ℕ
 end_of l [] = l.entries

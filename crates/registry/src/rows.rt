@@ -2,7 +2,7 @@
 ghost use Rattle.std.specs.Prelude.{◌≡◌, length};
 ghost use Rattle.registry.specs.Places.{end_of, index_at, get_at, build_at};
 
-use crate::{check_name, index_from, key_of};
+use crate::{check_name, index, key_of};
 use grammar::code;
 use messages::Refused;
 use nodes::{Definition, name_at, read_heading};
@@ -38,10 +38,7 @@ impl<'a, 'b> Index<'a, 'b> {
         ensures tape { result.tape ≡ tape.now }
         ensures rows { result.rows.now ≡ index_at tape.now.bytes.now tape.now.layout (length table.old) }
     {
-        let count = match tape.held() {
-            Some(held) => index_from(&held, table),
-            None => 0,
-        };
+        let count = index(tape, table);
         Index {
             tape: *tape,
             rows: &table[..count],

@@ -7,7 +7,7 @@ ghost use Rattle.walk_state.specs.Writing.{Makes, Moves, area_at, going};
 ghost use Rattle.subst_state.specs.Output.{copy_in};
 
 use tape::layout::{Layout, Place, Tape};
-use tape::part::{behind, part_of, values_behind};
+use tape::part::{behind, values_behind};
 use walk_state::writing::Cursor;
 
 // The `len` bytes from `start` on of one of two lent tapes, of the call's or else of the definition's, as far as it reaches. `of_call`
@@ -22,11 +22,7 @@ fn part<'a>(
 ) -> &'a [u8]
     ensures { result.now ≡ part (pick of_call call.now.bytes.now definition.now.bytes.now) start len }
 {
-    if of_call {
-        part_of(call.bytes, start, len)
-    } else {
-        part_of(definition.bytes, start, len)
-    }
+    tape::part::part(definition.bytes, call.bytes, of_call, start, len)
 }
 
 // Where the sections of that tape start.
