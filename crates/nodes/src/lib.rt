@@ -396,8 +396,10 @@ pub fn read_within(tape: &Tape, p: Place) -> Result<(WithinNode, Place), Refusal
     }
 }
 
-// A call (54) or a definition (60): its name and its list's count.
+// A call (54) or a definition (60): its name and its list's count. A part of its callers: the names of a registry ask for one at each
+// definition, and by a call, with a refusal's room in its answer, that takes a fifth of their time.
 #[tactic(auto, unfolding(crate::specs::Node::heading_at, crate::specs::Node::refusal_of, crate::specs::Node::span_of))]
+#[inline(always)]
 pub fn read_heading(tape: &Tape, p: Place, code: u8) -> Result<(Heading, Place), Refusal>
     ensures { result ≡ heading_at tape.now.bytes.now tape.now.layout p code }
 {
