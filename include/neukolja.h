@@ -11,10 +11,10 @@
  * deeper at each, and so do sizes, charges and messages. No result holds a 2.
  *
  * Stack: the walks recurse as deep as tapes nest. Measured at the deepest inputs on x86-64 (`bench stack`): neukolja_check 66,007
- * bytes, neukolja_registry 16,639, neukolja_check_library 72,359, neukolja_check_at 72,423, neukolja_merge 45,295,
- * neukolja_substitute 102,775, neukolja_expand 177,719, neukolja_preview 190,039, neukolja_judge 215,303,
+ * bytes, neukolja_registry 16,639, neukolja_check_library 72,359, neukolja_check_at 72,423, neukolja_merge 45,087,
+ * neukolja_substitute 102,775, neukolja_expand 177,335, neukolja_preview 189,655, neukolja_judge 214,919,
  * neukolja_older 21,567, neukolja_profile 21,567, neukolja_provider 9,071, neukolja_argument_to_term 9,167,
- * neukolja_term_to_argument 9,151, neukolja_sheet_open 16,751, neukolja_sheet_next 177,719. A linker script or a thread must
+ * neukolja_term_to_argument 9,151, neukolja_sheet_open 16,751, neukolja_sheet_next 177,335. A linker script or a thread must
  * provide it, with what the caller itself needs and some room on top: nothing checks it while a function runs.
  *
  * A function keeps nothing between calls, so several threads may call it at once, each with buffers of its own. What a call
